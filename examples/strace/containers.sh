@@ -69,6 +69,23 @@ runc_() {
   trace=$places options='-s 256' record runc runc run -b bundle credtrace-test
 }
 
+# The same with a user namespace, whose maps runc writes, in a PID namespace: the program is of user
+# 1000 there, 101000 outside, and has the group 5.
+runc_mapped() {
+  jail
+  chown -R 100000:100000 jail
+  mkdir -p bundle
+  mv jail bundle/rootfs
+  (cd bundle && runc spec)
+  sed -i 's/"terminal": true/"terminal": false/
+    s|"sh"|"/usr/bin/setpriv", "--dump"|
+    s/"uid": 0,/"uid": 1000, "additionalGids": [5],/; s/"gid": 0/"gid": 1000/
+    s/"namespaces": \[/"uidMappings": [{"containerID": 0, "hostID": 100000, "size": 65536}],\
+      "gidMappings": [{"containerID": 0, "hostID": 100000, "size": 65536}],\
+      "namespaces": [{"type": "user"},/' bundle/config.json
+  trace=$places options='-s 256' record runc-mapped runc run -b bundle credtrace-mapped
+}
+
 # A user's namespace with the map of another program: newuidmap's way, by the parent.
 # shellcheck disable=SC2016 # the recorded shell expands them
 rootless() {

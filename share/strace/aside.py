@@ -9,10 +9,10 @@ from __future__ import annotations
 from collections.abc import Callable
 from dataclasses import dataclass, replace
 
-from .rows import CHANGED
+from .kept import CHANGED
 from .script import Line
 
-# How often a script is run again without the first such line; then all like it stand aside.
+# How often a script is run again without the first such lines, and then without all such lines.
 RUNS = 20
 
 # A report's answers by the lines of its script.
@@ -59,6 +59,26 @@ def as_comments(lines: list[Line]) -> tuple[str, int]:
     return text_of(kept), sum(map(outside_of_rules, lines))
 
 
+def first_ones(lines: list[Line], numbers: list[int]) -> list[int]:
+    """The first of these lines in each process, but not in one that descends from another of them:
+    what such a process may do can come from what the other one's line changed."""
+    found, process_of, passed = [], {}, set()
+    for number, line in enumerate(lines, 1):
+        task, form, *others = [*line.words, ""][:4]
+        process = process_of.get(task)
+        if task == "init":
+            process_of[form] = others[0]
+        elif number in numbers and process not in passed:
+            found.append(number)
+            passed.add(process)
+        elif form == "spawn":
+            process_of[others[0]] = process
+        elif form == "fork":
+            process_of[others[0]] = others[1]
+            passed |= {others[1]} if process in passed else set()
+    return found
+
+
 def aside(line: Line) -> Line:
     """The line as a comment, which takes its place."""
     return line if line.text.startswith("#") else replace(line, text=f"# {line.text}")
@@ -69,7 +89,7 @@ def ran(lines: list[Line], answers: Answers) -> Ran:
     lines = lines[:]
     told: dict[int, str] = {}
     found = answers(text_of(lines))
-    for count in range(RUNS + 1):
+    for count in range(2 * RUNS):
         numbers = [
             number
             for number, line in enumerate(lines, 1)
@@ -77,7 +97,7 @@ def ran(lines: list[Line], answers: Answers) -> Ran:
         ]
         if not numbers:
             break
-        for number in numbers[:1] if count < RUNS else numbers:
+        for number in first_ones(lines, numbers) if count < RUNS else numbers:
             told[number] = found[number]
             lines[number - 1] = aside(lines[number - 1])
         found = answers(text_of(lines))

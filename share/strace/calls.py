@@ -62,7 +62,10 @@ def answer(result: Result) -> str | None:
 
 
 NUMBERS = "its constants are numbers: record without -X raw or -X verbose"
-ADDRESSES = "its arguments are addresses: record without -e verbose=none"
+ADDRESSES = (
+    "its arguments are addresses: record without -e verbose=none and -e raw, and as root, since a "
+    "user's strace can't read the memory of a task that isn't dumpable"
+)
 
 
 def is_address(text: str) -> bool:

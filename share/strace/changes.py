@@ -131,6 +131,9 @@ class Changes:
             for place, history in self.next.histories.items()
             if history.lines and (place in self.next.names or files.lists(place))
         }
+        if not (self.next.histories or self.next.stops or self.next.links):
+            # Nothing that was used changes.
+            return True
         if self.next != self._known:
             return False
         was_sure, self.next.sure = self.next.sure, True

@@ -16,13 +16,18 @@ from .files import BadList, Files, read_list
 from .kin import matched
 from .lineage import NoProcess, family
 from .lines import BadLog
-from .log import Item, Reader, text_lines
+from .log import Call, Item, Reader, text_lines
 from .script import Stop
 from .sources import merged, source_of
 from .start import BadStart, Start, start_of, start_of_threads
 
 # The exit statuses: the script holds the whole log; it ends before; there is none.
 WHOLE, ENDS_BEFORE, NONE = 0, 1, 2
+
+# Calls that every program makes; a log without them was recorded with -e trace. And calls after
+# which paths and ids lead elsewhere.
+EVERYWHERE = ("mmap", "brk", "close", "read")
+LEADING = ("chroot", "pivot_root", "mount", "unshare", "setns")
 
 # How often a log is gone through at most, to find out which files change in it.
 RUNS = 9
@@ -130,12 +135,24 @@ def converted(options: Options, asks: bool = False) -> Converter:
         if converter.changes.settled():
             break
         known = converter.changes.next
-    converter.notes = start.notes + converter.notes + since_the_log(converter.files, options.logs)
+    notes = [*since_the_log(converter.files, options.logs), *left_out(reader, items)]
+    converter.notes = start.notes + converter.notes + notes
     converter.passed.names(reader.passed)
     converter.count = reader.count
     if reader.cut and not converter.stopped:
         converter.stopped = Stop(reader.cut.line, reader.cut.what)
     return converter
+
+
+def left_out(reader: Reader, items: list[Item]) -> list[str]:
+    """What is said of a log that may lack the calls by which paths and ids lead elsewhere."""
+    names = {item.name for item in items if isinstance(item, Call)} | set(reader.passed)
+    if names & {*EVERYWHERE, *LEADING}:
+        return []
+    return [
+        "the log has only what -e trace named, and no call of chroot, pivot_root, mount, unshare "
+        "or setns: where these weren't named another root or namespace isn't seen"
+    ]
 
 
 def since_the_log(files: Files, logs: list[str]) -> list[str]:

@@ -10,8 +10,9 @@ from dataclasses import dataclass, field
 
 from .aside import Ran, ran
 from .command import Fault, add_options, converted, options_of
+from .kept import CHANGED
 from .log import Call
-from .probe import Probe
+from .probe import QUESTIONS, Probe
 from .rows import Explainer
 from .running import cant_run, program
 from .script import Line, Script
@@ -91,6 +92,8 @@ class Comparison:
     explained: int = 0
     unexplained: int = 0
     told: list[str] = field(default_factory=list)
+    # Whether the first difference is in what a credential is, which no call changed before.
+    begins_otherwise: bool | None = None
 
     def differs(self, number: int, line: Line, report: str, row: str | None) -> None:
         """A call whose result is another one."""
@@ -107,14 +110,29 @@ class Comparison:
         else:
             self.unexplained += 1
 
-    def forgotten(self) -> str | None:
+    def begins(self, line: Line) -> None:
+        """Whether the log begins otherwise than the script, as far as a line tells it."""
+        if self.told:
+            self.begins_otherwise = line.words[1] in QUESTIONS
+        elif may_change(line):
+            self.begins_otherwise = False
+
+    def forgotten(self, start: str | None) -> str | None:
         """What is said where the first difference is that the log begins otherwise."""
         if not self.told or "no row explains it" not in self.told[0]:
             return None
+        first = f"{self.told[0].split(': ')[0]} is the first of {len(self.told)} calls that differ"
+        if start is None:
+            return (
+                f"{first}. The script begins as root with all capabilities, since no --start was "
+                "given, and the log may not: name the text of /proc/PID/status where it begins by "
+                "--start"
+            )
+        if not self.begins_otherwise:
+            return None
         return (
-            f"{self.told[0].split(': ')[0]} is the first of {len(self.told)} calls that differ. "
-            "The script begins as root with all capabilities, since no --start was given, and the "
-            "log may not: name the text of /proc/PID/status where it begins by --start"
+            f"{first}, and no call before it changed a credential: the log begins with another one "
+            f"than {start} says, as where strace -u runs a program as another user"
         )
 
     def sum(self) -> str:
@@ -154,8 +172,18 @@ def compare(script: Script, run: Ran) -> Comparison:
                 reason = explainer.explain(number, line, report)
                 comparison.differs(number, line, report, reason)
             before = line.call
-        explainer.see(number, line)
+        explainer.see(number, line, found.get(number, "ok"))
+        if comparison.begins_otherwise is None and line.call is not None:
+            comparison.begins(line)
     return comparison
+
+
+def may_change(line: Line) -> bool:
+    """Whether a call may have changed a credential."""
+    mode, *others = [*line.facts.words.split()[3:], "0"]
+    if line.words[1] == "exec":
+        return bool(int(mode, 8) & 0o6000) or "caps" in others
+    return line.words[1] in CHANGED and bool(line.answer) and line.answer.startswith("ok")
 
 
 def refusals(script: Script, run: Ran) -> list[str]:
@@ -195,7 +223,7 @@ def main(words: list[str]) -> int:
     except Fault as fault:
         print(f"credtrace-compare: {fault}", file=sys.stderr)
         return NOT_COMPARED
-    forgotten = given.start is None and comparison.forgotten()
+    forgotten = comparison.forgotten(given.start)
     for told in refused + ([forgotten] if forgotten else comparison.told):
         print(told)
     for note in converter.notes:

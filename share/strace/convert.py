@@ -5,10 +5,10 @@ from __future__ import annotations
 from collections.abc import Callable, Iterable
 
 from . import asks, changes, filecalls, moves, traces
-from .calls import ID_CALLS, OWN_CALLS, SET_CALLS, Said, Unheld, answer
+from .calls import ADDRESSES, ID_CALLS, OWN_CALLS, SET_CALLS, Said, Unheld, answer
 from .changes import Changes, Known
 from .enters import Entries, is_map
-from .files import Files, Found, Missing
+from .files import Files, Missing
 from .lines import fields
 from .log import CREATIONS, EXECUTIONS, Call, Gone, Item, Renamed
 from .moves import Moves, argument, clone_flags
@@ -53,7 +53,7 @@ class Converter(Sayer):
         self.notes: list[str] = []
         self.stopped: Stop | None = None
         self.strangers: set[int] = set()
-        self.paths = Paths(files, folder is not None, self.tasks.find)
+        self.paths = Paths(files, folder is not None, self.tasks)
         self.changes = Changes(self.paths, known or Known())
         self.entries = Entries(self.tasks)
         self.most = 1
@@ -105,10 +105,10 @@ class Converter(Sayer):
         where.mounts = Mounts(where.root, outside=self._root.rstrip("/"))
         where.mounts.belongs(tasks[0].process.space)
         where.folder = self.begins(items, tasks[0])
-        self.script.begin_with(start.inits(), start.lines)
-        self.script.known = self.files
         begins = next((item for item in items if isinstance(item, Call)), None)
         traced = begins is not None and begins.name == "execve" and begins.pid == first
+        self.script.begin_with(start.inits(), start.lines if traced else start.in_the_middle())
+        self.script.known = self.files
         self.script.tracer = start.traces if traced else None
         if not traced and self.files.listed is None and self._root == "/":
             self.notes.append(
@@ -203,7 +203,7 @@ class Converter(Sayer):
         text = next((arg[6:] for arg in call.args if arg.startswith("flags=")), "")
         if call.name == "clone3":
             if not argument(call, 0).startswith("{"):
-                raise Unheld("its flags are an address: record without -e verbose=none")
+                raise Unheld(ADDRESSES)
             text = fields(call.args[0]).get("flags", "")
         flags = clone_flags(text)
         if call.context:
@@ -294,11 +294,12 @@ class Converter(Sayer):
         """The task has executed a program: it is the only one of its process."""
         process = task.process
         process.program = program
-        acting = task.ids.acting()
-        task.ids.executes(words.split())
-        process.dumpable = task.ids.acting() == acting
-        if process.space.parent is not None and process.space.uids is None:
-            process.space.early.append((line, *task.ids.users[:2]))
+        space = process.space
+        traced = self.script.tracer is False and space.parent is None
+        process.dumpable = task.ids.executes(words.split(), space, traced)
+        process.executed = space
+        if space.parent is not None and space.uids is None:
+            space.early.append((line, *task.ids.users[:2]))
         task.descriptors = task.descriptors.copy()
         for other in [one for one in task.process.threads if one is not task]:
             self.tasks.end(other)
@@ -314,20 +315,24 @@ class Converter(Sayer):
             facts = Facts(
                 apart=sender.session != target.session,
                 outside=not target.space.is_within(sender.space),
-                maker=target.space.parent is sender.space
-                and target.space.owner == task.ids.users[1],
+                maker=target.space.is_made_by(task.ids.users[1], sender.space),
             )
+            facts = self.with_race(facts, task, target, call)
             self.say(task, call, Said(f"signal {other.name}", said), facts)
 
     def looks(self, task: Task, call: Call) -> bool:
         """Whether the call asks to look into another task of the log: then the script says it."""
         mode, targets, said = traces.look(call) or ("", [], "")
-        tasks = [self.tasks.find(target, task) for target in targets]
+        if mode == "fs":
+            tasks = [self.paths.owner(task, target) for target in targets]
+        else:
+            tasks = [self.tasks.find(target, task) for target in targets]
         others = [one for one in tasks if one is None or one.process is not task.process]
         if len(others) != 1 or others[0] is None:
             return False
-        facts = Facts(inside=others[0].process.space.parent is not None)
-        self.say(task, call, Said(f"ptrace {mode} {others[0].name}", said), facts)
+        said = Said(f"ptrace {mode} {others[0].name}", said)
+        facts = traces.facts(task, others[0].process)
+        self.say(task, call, said, self.with_race(facts, task, others[0].process, call))
         return True
 
     def trace(self, task: Task, call: Call) -> None:

@@ -19,7 +19,8 @@ from .opened import NAMESPACE, PIDFD
 from .pids import Pids, foreign
 from .places import Located, Mounts
 from .script import Script
-from .spaces import GREATEST, SPACES, Ids, Space
+from .ids import Ids
+from .spaces import GREATEST, SPACES, Space
 from .start import NO_SETUID_FIXUP
 from .tasks import Task, Tasks
 
@@ -49,7 +50,8 @@ def lead(seat: Seat, root: int) -> tuple[str, list[str]]:
             calls.append(f"setres{name}id {real} {effective} {saved}")
             if filesystem != effective:
                 calls.append(f"setfs{name}id {filesystem}")
-        calls.append("securebits 0")
+        # What leads to the ids isn't the log's: the task isn't less dumpable by it.
+        calls += ["securebits 0", "dumpable 1"]
     if ids.no_new_privs:
         calls.append("nonewprivs 1")
     return init, [f"{seat.task} {call}" for call in calls]
@@ -76,6 +78,7 @@ class Entries:
         """The task is a first task of the namespace now."""
         task.process.space = space
         self.seats.append(Seat(task.name, task.process.number, space, task.ids.copy()))
+        task.ids = task.ids.in_new_space()
 
     def enter(self, task: Task, space: Space) -> str:
         """A task enters a namespace; its name before, which ends in the script."""
@@ -140,7 +143,8 @@ class Entries:
     def map_written(self, task: Task, call: Call, place: Located) -> None:
         """write(2) into uid_map, gid_map or setgroups of a process."""
         _, _, pid, name = (place.place.split("/") + ["", "", ""])[:4]
-        owner = self._tasks.find(pid, task)
+        pids = place.mount.pids if place.mount else None
+        owner = self._tasks.in_proc(pid, pids) if re.fullmatch(r"@?\d{1,9}", pid) else None
         if owner is None or owner.process.space.parent is None:
             return
         text = lines.string(argument(call, 1))

@@ -15,14 +15,11 @@ CHOWN = {"chown": 1, "lchown": 1, "fchown": 1, "fchownat": 2}
 CHOWN |= {name + "32": place for name, place in CHOWN.items() if name != "fchownat"}
 SET = ("setxattr", "lsetxattr", "fsetxattr")
 REMOVE = ("removexattr", "lremovexattr", "fremovexattr")
-CHANGING = frozenset({*CHMOD, *CHOWN, *SET, *REMOVE})
 
 # Those that leave a symbolic link itself to be changed.
 OF_LINKS = ("lchown", "lchown32", "lsetxattr", "lremovexattr")
 
-STAT = ("stat", "lstat", "fstat", "stat64", "lstat64", "fstat64", "newfstatat", "fstatat64")
-STAT += ("statx",)
-GET = ("getxattr", "lgetxattr", "fgetxattr")
+STAT, GET = lines.STAT, lines.GET
 BY_DESCRIPTOR = ("fchmod", "fchown", "fchown32", "fsetxattr", "fremovexattr", "fstat", "fstat64")
 BY_DESCRIPTOR += ("fgetxattr",)
 AT_FOLDER = ("fchmodat", "fchmodat2", "fchownat", "newfstatat", "fstatat64", "statx")

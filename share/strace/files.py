@@ -244,6 +244,11 @@ class Files:
         fs/namespace.c).
         """
         mount, place = named.mount or Mount(""), named.real or named.place
+        if mount.mapped:
+            raise Missing(
+                f"{named.place} is of another owner through the mount that line {mount.mapped} "
+                "changes (mount_setattr(2), MOUNT_ATTR_IDMAP)"
+            )
         file = self._before(named.place, place)
         noexec = file.noexec if mount.noexec is None else mount.noexec
         words = file.words
@@ -259,6 +264,16 @@ class Files:
             name += " of another mount namespace" if apart else f" through a {kind} mount"
         file = File(words, file.interpreter, noexec)
         return Found(name, file, place, named.place, named, apart)
+
+    def without_set_id(self, found: Found) -> Found:
+        """The same file for a namespace that its owner or group isn't mapped in: there its set-id
+        bits have no effect (user_namespaces(7)). Where it changes it is one file for all."""
+        kind, owner, group, mode, *others = found.file.words.split()
+        if not int(mode, 8) & 0o6000 or self.one(found.place) in self._histories:
+            return found
+        words = " ".join([kind, owner, group, f"{int(mode, 8) & 0o1777:04o}", *others])
+        path = f"{found.path} of an owner who isn't mapped"
+        return replace(found, path=path, file=replace(found.file, words=words))
 
     def changed_after(self, time: float) -> list[str]:
         """The files that this machine has changed since then."""

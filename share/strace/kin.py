@@ -1,8 +1,8 @@
 """Tasks whose pid only their own lines tell, as in a PID namespace.
 
 There clone(2) returns the pid of the namespace, and strace writes that of its own before each line.
-The tasks that nobody made are told apart by their order: pids are given in that of the creations.
-So are those of creations whose end the log hasn't.
+The tasks that nobody made are told apart by their order: pids are given in that of the creations,
+in each namespace. So are those of creations whose end the log hasn't.
 """
 
 from __future__ import annotations
@@ -25,7 +25,7 @@ def matched(items: list[Item], first: int) -> list[Item]:
     last = max((seen[pid] for pid in strangers), default=0)
     inner = [call for call in made if call.result.value not in seen]
     inner = [call for call in inner if not is_untold(call) or call.first < last]
-    pairs = paired(inner, strangers, seen)
+    pairs = paired(items, inner, strangers, seen)
     found = [pairs.get(id(item), item) if isinstance(item, Call) else item for item in items]
     return [item for item in found if not isinstance(item, Call) or not is_untold(item)]
 
@@ -40,16 +40,23 @@ def is_creation(call: Call) -> bool:
     return call.name in CREATIONS and call.result.error is None and (call.result.value or 0) > 0
 
 
-def paired(inner: list[Call], strangers: list[int], seen: dict[int, int]) -> dict[int, Call]:
+def paired(
+    items: list[Item], inner: list[Call], strangers: list[int], seen: dict[int, int]
+) -> dict[int, Call]:
     """Each such creation with the pid of the task that it made, where that is certain."""
     if len(inner) != len(strangers):
         return {}
-    order = sorted(inner, key=lambda call: call.first)
-    pairs = list(zip(order, strangers, strict=True))
-    if any(call.first > seen[pid] for call, pid in pairs):
+    groups = under_way(sorted(inner, key=lambda call: call.first))
+    order = [call for group in groups for call in group]
+    found = dict(zip(strangers, order, strict=True))
+    if any(call.first > seen[pid] for pid, call in found.items()):
         return {}
-    # Of creations that are under way at the same time nobody knows which one came first.
-    if any(one.last > other.first for one, other in zip(order, order[1:], strict=False)):
+    # Of creations that are under way at the same time their numbers tell which one came first,
+    # where they are of one PID namespace.
+    kin = Kin(items, found)
+    if any(len({kin.space(call.pid) for call in group}) > 1 for group in groups):
+        return {}
+    if any(len(group) > 1 and any(map(is_untold, group)) for group in groups):
         return {}
     return {
         id(call): replace(
@@ -57,5 +64,50 @@ def paired(inner: list[Call], strangers: list[int], seen: dict[int, int]) -> dic
             result=Result(pid, None),
             inner=None if is_untold(call) else call.result.value,
         )
-        for call, pid in pairs
+        for pid, call in found.items()
     }
+
+
+def under_way(calls: list[Call]) -> list[list[Call]]:
+    """The calls in groups of those that are under way at the same time, each by its result."""
+    groups: list[list[Call]] = []
+    last = 0
+    for call in calls:
+        if groups and call.first < last:
+            groups[-1].append(call)
+        else:
+            groups.append([call])
+        last = max(last, call.last)
+    return [sorted(group, key=lambda call: call.result.value or 0) for group in groups]
+
+
+class Kin:
+    """Who made whom, by what the log tells and by what is supposed."""
+
+    def __init__(self, items: list[Item], supposed: dict[int, Call]) -> None:
+        calls = [item for item in items if isinstance(item, Call)]
+        made = [call for call in calls if is_creation(call)]
+        self._made = {call.result.value or 0: call for call in made} | supposed
+        self._enters: dict[int, list[int]] = {}
+        for call in calls:
+            if call.name == "setns" or (call.name == "unshare" and makes_space(call)):
+                self._enters.setdefault(call.pid, []).append(call.first)
+
+    def space(self, pid: int) -> tuple[str, int]:
+        """What made the PID namespace of a task: a task of its own there, or a line of the log."""
+        passed: set[int] = set()
+        while pid in self._made and pid not in passed:
+            passed.add(pid)
+            call = self._made[pid]
+            if makes_space(call):
+                return "pid", pid
+            lines = [line for line in self._enters.get(call.pid, ()) if line < call.first]
+            if lines and not any("CLONE_THREAD" in arg for arg in call.args):
+                return "line", lines[-1]
+            pid = call.pid
+        return "pid", pid
+
+
+def makes_space(call: Call) -> bool:
+    """Whether the call makes a PID namespace."""
+    return any("CLONE_NEWPID" in arg for arg in call.args)

@@ -3,7 +3,6 @@
 from __future__ import annotations
 
 import re
-from collections.abc import Collection
 from dataclasses import dataclass
 
 
@@ -48,21 +47,36 @@ ATTACHED = re.compile(r"strace: Process (\d{1,9}) attached(?: with \d+ threads)?
 UNFINISHED = "<unfinished ...>"
 PID_CHANGED = re.compile(r"<pid changed to \d{1,9} \.\.\.>$")
 
+# Behind a call of the first thread of a process, without an end: another one has executed a program.
+SUPERSEDED = re.compile(
+    r"(?:\[pid +\d{1,9}\] +|\d{1,9} +)?(?:\d\d:\d\d:\d\d(?:\.\d+)? +|\d+\.\d+ +)?"
+    r"\+\+\+ superseded by execve in pid \d{1,9} \+\+\+$"
+)
+
 # A call in which strace detached from its task.
 DETACHED = "<detached ...>"
+
+# Calls that tell what a file is, which matters where files change in the log; and those that change
+# one.
+STAT = ("stat", "lstat", "fstat", "stat64", "lstat64", "fstat64", "newfstatat", "fstatat64")
+STAT += ("statx",)
+GET = ("getxattr", "lgetxattr", "fgetxattr")
+TELLING = frozenset({*STAT, *GET})
+CHANGING = frozenset(
+    "chmod fchmod fchmodat fchmodat2 chown lchown fchown fchownat chown32 lchown32 fchown32 setxattr "
+    "lsetxattr fsetxattr removexattr lremovexattr fremovexattr".split()
+)
 
 # Calls of which only some are read: write(2) where it may be of a map of ids or the beginning of a
 # script file, the others where they make a descriptor.
 ASKED = {
-    "write": re.compile(r'\d+(?:<[^>]*>(?:\(deleted\))?)?, "(?:(?:[0-9 ]|\\[nt])+"|deny|allow|#!)'),
+    "write": re.compile(r'\d+(?:<[^>]*>(?:\(deleted\))?)?, "(?:(?:[0-9 ]|\\[nt0])+"|deny|allow|#!)'),
     "fcntl": re.compile(r"\d+(?:<.*>)?, F_DUPFD"),
     "ioctl": re.compile(r"\d+(?:<.*>)?, NS_GET_"),
     "recvmsg": re.compile(r".*(?:SCM_RIGHTS|<unfinished \.\.\.>$)"),
     "recvmmsg": re.compile(r".*(?:SCM_RIGHTS|<unfinished \.\.\.>$)"),
 }
-ASKED |= dict.fromkeys(
-    ("getxattr", "lgetxattr", "fgetxattr"), re.compile(r'.*(?:"security\.capability"|<unfinished)')
-)
+ASKED |= dict.fromkeys(GET, re.compile(r'.*(?:"security\.capability"|<unfinished)'))
 
 # A result that strace made up (-e inject): the kernel never saw the call.
 INJECTED = " (INJECTED)"
@@ -98,13 +112,12 @@ ESCAPE = re.compile(r"\\(x[0-9a-fA-F]{2}|[0-7]{1,3}|.)")
 ESCAPES = {"n": "\n", "t": "\t", "r": "\r", "v": "\v", "f": "\f", "a": "\a", "b": "\b"}
 
 
-def other(text: str, wanted: Collection[str]) -> str | None:
-    """The name of a whole call which isn't wanted."""
+def whole(text: str) -> tuple[str, str] | None:
+    """The name of a call that ends on its line, as most do, and what stands behind its bracket."""
     match = PLAIN.match(text)
-    if match is None or " = " not in text:
+    if match is None or " = " not in text or text.endswith("...>"):
         return None
-    name = match[1]
-    return None if name in wanted and is_asked(name, text[match.end() :]) else name
+    return match[1], text[match.end() :]
 
 
 def is_asked(name: str, rest: str) -> bool:

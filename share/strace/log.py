@@ -137,6 +137,8 @@ class Reader:
     # Where the log is cut, and why what follows isn't read.
     cut: BadLog | None = None
     first_pid: int | None = None
+    # Lines with calls that tell what a file is: they are read where a file changes in the log.
+    _telling: list[tuple[int, str]] = field(default_factory=list)
     _alive: set[int] = field(default_factory=set)
     _children: set[int] = field(default_factory=set)
     _before: str = ""
@@ -155,10 +157,25 @@ class Reader:
             raise BadLog(self.count, "the log is cut in the middle of a call")
         if self.first_pid is None:
             raise BadLog(self.count + 1, "the log has no call")
+        self.tell_of_files()
         for pid, begun in self.begun.items():
             self.without_end(pid, begun)
         self.found.sort(key=lambda pair: pair[0])
         return [item for _, item in self.found]
+
+    def tell_of_files(self) -> None:
+        """Reads what tells of files, where one changes in the log."""
+        changes = any(isinstance(it, Call) and it.name in lines.CHANGING for _, it in self.found)
+        last = self.count
+        for self.count, text in self._telling:
+            match = lines.HEAD.match(text)
+            if match is None or not match["call"]:
+                raise BadLog(self.count, NO_END)
+            if changes:
+                self.ends(self.pid_of(match), Begun(match["call"], "", self.count), text[match.end() :])
+            else:
+                self.passed[match["call"]] += 1
+        self.count = last
 
     def without_end(self, pid: int, begun: Begun) -> None:
         """A call is begun, and the log ends."""
@@ -184,9 +201,12 @@ class Reader:
     def line(self, text: str) -> None:
         """Reads one line."""
         if self.first_pid and self._attached is None:
-            other = lines.other(text, self.wanted)
-            if other is not None:
-                self.passed[other] += 1
+            name, rest = lines.whole(text) or ("", "")
+            if name and not (name in self.wanted and lines.is_asked(name, rest)):
+                self.passed[name] += 1
+                return
+            if name in lines.TELLING:
+                self._telling.append((self.count, text))
                 return
         if self._attached is not None:
             text, self._before = self._before + text, ""
@@ -229,7 +249,10 @@ class Reader:
             self.first_pid = self.first_pid or int(match[1])
 
     def cut_by_message(self, text: str) -> None:
-        """A message stands in the middle of a line, which the next line ends."""
+        """A message stands in the middle of a line, which the next line ends, or nothing does."""
+        if ended := lines.SUPERSEDED.search(text):
+            self.told_by_task(text[ended.start() :])
+            return
         match = lines.ATTACHED.search(text)
         if match is None or self._attached is not None:
             raise BadLog(self.count, NO_END)

@@ -10,7 +10,7 @@ from dataclasses import replace
 from . import lines
 from .calls import Unheld
 from .log import Call
-from .opened import FILE, LOOSE, NAMESPACE, PIDFD, descriptor
+from .opened import FILE, KIND, LOOSE, NAMESPACE, PIDFD, descriptor
 from .paths import Paths, link_of
 from .pids import NOBODY, Pids
 from .places import Located, Mount, Mounts, Where
@@ -87,6 +87,7 @@ class Moves:
             "umount2": self.umount,
             "umount": self.umount,
             "open_tree": self.open_tree,
+            "fsopen": self.fsopen,
             "fsmount": self.fsmount,
             "move_mount": self.move_mount,
             "mount_setattr": self.mount_setattr,
@@ -132,7 +133,9 @@ class Moves:
         kept = Mount(target.place, "MS_NOSUID" in flags, "MS_NOEXEC" in flags)
         if "MS_REMOUNT" in flags:
             # The flags of a mount are its own, whoever else sees it.
-            mounts.over[point_of(target, mounts.over) or target.place] = kept
+            old = replace(target.mount or kept, source=kept.source)
+            again = replace(old, nosuid=kept.nosuid, noexec=kept.noexec)
+            mounts.over[point_of(target, mounts.over) or target.place] = again
             return
         if flags & {"MS_BIND", "MS_MOVE"}:
             source = self.paths.locate(task, call, 0)
@@ -140,7 +143,7 @@ class Moves:
                 self.unmounts(mounts, source.point, call)
             kept = bound(source)
         elif lines.string(argument(call, 2)) == "proc":
-            kept = replace(kept, source="/proc")
+            kept = replace(kept, source="/proc", pids=task.process.pids)
         else:
             kept = replace(kept, source=f"@{call.first}:/")
         self.mounts(mounts, target.place, kept, call)
@@ -169,11 +172,18 @@ class Moves:
         kind = LOOSE if "OPEN_TREE_CLONE" in argument(call, 2) else FILE
         task.descriptors.opens(call.result.value, kind, found)
 
+    def fsopen(self, task: Task, call: Call) -> None:
+        """fsopen(2): a kind of file system."""
+        kind = lines.string(argument(call, 0)) or ""
+        task.descriptors.opens(call.result.value, KIND, kind)
+
     def fsmount(self, task: Task, call: Call) -> None:
         """fsmount(2): a new file system, which move_mount(2) mounts."""
         flags = argument(call, 2)
-        place = f"@{call.first}:/"
+        is_proc = task.descriptors.get(argument(call, 0), KIND) == "proc"
+        place = "/proc" if is_proc else f"@{call.first}:/"
         mount = Mount(place, "MOUNT_ATTR_NOSUID" in flags, "MOUNT_ATTR_NOEXEC" in flags)
+        mount = replace(mount, pids=task.process.pids if is_proc else None)
         task.descriptors.opens(call.result.value, LOOSE, Located(place, mount))
 
     def move_mount(self, task: Task, call: Call) -> None:
@@ -189,15 +199,15 @@ class Moves:
     def mount_setattr(self, task: Task, call: Call) -> None:
         """mount_setattr(2): other flags."""
         fields = lines.fields(argument(call, 3))
-        given, kind = fields.get("attr_set", ""), fields.get("propagation", "")
+        kind = fields.get("propagation", "")
         loose = task.descriptors.get(argument(call, 0), LOOSE)
         found = loose if isinstance(loose, Located) else self.paths.locate(task, call, 1, 0)
         if kind in PROPAGATION and found is not loose:
             task.where.mounts.is_seen(found.place, kind, "AT_RECURSIVE" in argument(call, 2))
-        if "MOUNT_ATTR_NOSUID" not in given and "MOUNT_ATTR_NOEXEC" not in given:
+        old = replace(found.mount or Mount(""), source=found.place)
+        mount = with_attributes(old, fields, call.first)
+        if mount == old:
             return
-        nosuid, noexec = "MOUNT_ATTR_NOSUID" in given, "MOUNT_ATTR_NOEXEC" in given
-        mount = Mount(found.place, nosuid, noexec)
         if found is loose:
             task.descriptors.opens(descriptor(call.args[0]), LOOSE, Located(found.place, mount))
         else:
@@ -236,7 +246,7 @@ class Moves:
     def opened(self, task: Task, number: int | None, found: Located) -> None:
         """A descriptor of a file, or of a namespace of a process."""
         match = re.fullmatch(r"/proc/(@?\d+)(?:/task/\d+)?/ns/(\w+)", found.place)
-        owner = self.paths.of_pid(match[1], task) if match else None
+        owner = self.paths.tasks.in_proc(match[1], proc_of(found)) if match else None
         if match and owner and match[2] == "user":
             task.descriptors.opens(number, NAMESPACE, owner.process.space)
         elif match and owner and match[2] == "mnt":
@@ -272,7 +282,7 @@ class Moves:
 
     def pidfd_open(self, task: Task, call: Call) -> None:
         """pidfd_open(2)."""
-        self.is_of(task, call.result.value, self.paths.of_pid(argument(call, 0), task))
+        self.is_of(task, call.result.value, self.paths.tasks.find(argument(call, 0), task))
 
     def with_pidfd(self, task: Task, call: Call, child: Task) -> None:
         """clone(2) or clone3(2) with CLONE_PIDFD: where the log says which descriptor it is."""
@@ -325,4 +335,19 @@ def own_process(found: Located, task: Task) -> Located:
 def bound(source: Located) -> Mount:
     """A mount of what lies there, with the flags that it has there."""
     flags = source.mount or Mount("")
-    return Mount(source.place, flags.nosuid, flags.noexec)
+    return replace(flags, source=source.place)
+
+
+def with_attributes(mount: Mount, fields: dict[str, str], line: int) -> Mount:
+    """The same with what mount_setattr(2) sets and clears; it leaves all else."""
+    given, cleared = fields.get("attr_set", ""), fields.get("attr_clr", "")
+    for name in ("nosuid", "noexec"):
+        flag = f"MOUNT_ATTR_{name.upper()}"
+        if flag in given or flag in cleared:
+            mount = replace(mount, **{name: flag in given})
+    return replace(mount, mapped=line) if "MOUNT_ATTR_IDMAP" in given else mount
+
+
+def proc_of(found: Located) -> Pids | None:
+    """The PID namespace that /proc was mounted for, where the path leads through one."""
+    return found.mount.pids if found.mount else None

@@ -11,8 +11,8 @@ from .places import Located, Mounts
 from .spaces import Space
 
 # What a descriptor is of: a file; a pidfd's process; the namespace of a process; a mount that isn't
-# attached. Where nobody knows, there is none.
-FILE, PIDFD, NAMESPACE, LOOSE = "file", "pidfd", "namespace", "mount"
+# attached; a kind of file system. Where nobody knows, there is none.
+FILE, PIDFD, NAMESPACE, LOOSE, KIND = "file", "pidfd", "namespace", "mount", "kind"
 
 What = Located | int | str | Space | Mounts | Pids
 

@@ -4,17 +4,17 @@ from __future__ import annotations
 
 import os
 import re
-from collections.abc import Callable
 from dataclasses import replace
 
 from . import lines
-from .calls import Unheld
+from .calls import ADDRESSES, Unheld, is_address
 from .files import CUT, SCRIPTS, Files, Found, Missing
 from .log import Call
 from .opened import FILE, told
 from .places import Located, Where, no_link
-from .tasks import Task
+from .tasks import Task, Tasks
 
+NO_PATH = "its path can't be read: strace writes the whole with -s 4096"
 NO_DESCRIPTOR = "what its descriptor is of isn't known: strace writes it with -y"
 
 OWN_DESCRIPTOR = re.compile(r"/(?:proc/(?:self|thread-self|(?P<pid>\d+))|dev)/fd/(?P<fd>\d{1,9})$")
@@ -43,14 +43,14 @@ def link_of(place: str) -> str | None:
 class Paths:
     """Where the paths of calls lead."""
 
-    def __init__(self, files: Files, known: bool, find: Callable[[str, Task], Task | None]) -> None:
+    def __init__(self, files: Files, known: bool, tasks: Tasks) -> None:
         self.files = files
         # Whether the folder where the log begins is known.
         self.known = known
         # Where in the log it is, and the lines at which symbolic links were others.
         self.line = 0
         self.relinked: dict[str, int] = {}
-        self.of_pid = find
+        self.tasks = tasks
 
     def base(self, task: Task, text: str) -> Located | None:
         """What a descriptor is of, a folder or a file; None for AT_FDCWD or where nobody knows."""
@@ -81,9 +81,10 @@ class Paths:
         self, task: Task, call: Call, place: int, at: int | None
     ) -> tuple[str, Located | None]:
         """The path of an argument, and the folder of the descriptor before it, if there is one."""
-        path = lines.string(call.args[place]) if place < len(call.args) else None
+        given = call.args[place] if place < len(call.args) else ""
+        path = lines.string(given)
         if path is None:
-            raise Unheld("its path can't be read: strace writes the whole with -s 4096")
+            raise Unheld(ADDRESSES if is_address(given) else NO_PATH)
         if at is None:
             return path, None
         base = self.base(task, call.args[at])
@@ -146,10 +147,16 @@ class Paths:
         is_whole = found.place.startswith(("/", "@", "memfd:"))
         return is_whole or self.known or self.files.lists(found.place)
 
+    def owner(self, task: Task, pid: str | None) -> Task | None:
+        """Whose folder of /proc it is: the task's own, or of the number that it has there."""
+        found = task.where.locate("/proc")
+        mount = found.mount if found else None
+        return self.tasks.in_proc(pid, mount.pids if mount else None) if pid else task
+
     def special(self, task: Task, path: str) -> Located | None:
         """The place of a path that /proc or /dev/fd has of a process."""
         if match := OWN_DESCRIPTOR.match(path):
-            owner = self.of_pid(match["pid"], task) if match["pid"] else task
+            owner = self.owner(task, match["pid"])
             found = owner.descriptors.get(match["fd"], FILE) if owner else None
             if isinstance(found, Located):
                 return found
@@ -157,7 +164,7 @@ class Paths:
         match = PROCESS.match(path)
         if match is None or match["what"] is None:
             return None
-        owner = self.of_pid(match["pid"], task) if match["pid"] else task
+        owner = self.owner(task, match["pid"])
         if owner is None:
             raise Unheld(f"{path} is of a process that the log doesn't have")
         known = {
@@ -178,7 +185,11 @@ class Paths:
         if self.files.listed is None and found.place.startswith("/proc/"):
             raise Missing(f"{found.place} is another file for this program than for the log's")
         other = found.within not in (None, task.where.mounts.number)
-        return self.files.found(found, executes and other)
+        file = self.files.found(found, executes and other)
+        owner, group = (int(word) for word in file.file.words.split()[1:3])
+        space = task.process.space
+        mapped = space.inside(owner, False) and space.inside(group, True)
+        return self.files.without_set_id(file) if executes and not mapped else file
 
     def programs(self, task: Task, call: Call, place: int, at: int | None) -> list[Found]:
         """The file to execute; behind a script file its interpreter, which runs in its place."""

@@ -14,6 +14,7 @@ from collections.abc import Callable
 from dataclasses import dataclass, field, replace
 from itertools import count
 
+from .pids import Pids
 from .spaces import Space
 
 # How many symbolic links are followed (path_resolution(7)).
@@ -30,6 +31,10 @@ class Mount:
     source: str
     nosuid: bool | None = None
     noexec: bool | None = None
+    # Of /proc, the PID namespace that it was mounted for.
+    pids: Pids | None = None
+    # The line of the log by which the owners of its files are others (mount_setattr(2)).
+    mapped: int = 0
 
 
 @dataclass(frozen=True)

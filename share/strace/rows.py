@@ -14,9 +14,15 @@ from pathlib import Path
 
 from . import filerows
 from .calls import ID_CALLS
+from .kept import CAPS, CHANGED, DUMPABLE, FILE, FILE_IDS, GROUP_IDS, IDS, USERS
+from .kept import Kept, Known, reason
+from .leaves import differ, gains_nothing, is_reset, keeps_ambient, keeps_filesystem_id
+from .leaves import loses_ambient, stays_dumpable
+from .moves import OPENS
 from .probe import Probe, Values
-from .refusals import by_capability, has_kill
+from .refusals import by_capability, has_kill, wanted
 from .script import Line
+from .spaces import GID_WORDS, UID_WORDS
 
 PAGE = Path(__file__).resolve().parents[2] / "docs" / "LINUX.md"
 
@@ -44,15 +50,11 @@ ALL = (
     OUTER, LOOKS, EXECVE_FLAG, *filerows.ALL,
 )  # fmt: skip
 
-# What a kept row may have changed.
-IDS, CAPS, FILE_IDS = "ids", "caps", "file ids"
-BOUNDING, BITS, GROUPS, FILE = "bounding", "bits", "groups", "file"
-
 # The forms of which a file's state decides, or tells.
 OF_FILES = (*filerows.FORMS, "stat", "exec", "open", "check", "access")
 
-# CAP_DAC_OVERRIDE and CAP_DAC_READ_SEARCH, by which any file may be read.
-READS = 0b110
+# The securebits that decide something (capabilities(7)).
+LOW_BITS = 0xFF
 
 # What the log explains itself.
 LOG = "the log:"
@@ -70,60 +72,18 @@ def row(begins: str) -> tuple[str, str]:
     return next(found, (begins, ""))
 
 
-@dataclass(frozen=True)
-class Kept:
-    """A row that may explain a later difference: in what, and whether the kernel then has more."""
-
-    row: str
-    part: str
-    number: int
-    text: str
-    more: bool | None = None
-    sure: bool = True
-
-
-@dataclass
-class Known:
-    """What is known of a task besides its credential."""
-
-    kept: list[Kept] = field(default_factory=list)
-    # The execve by which its process isn't dumpable in Linux, though it is in the program.
-    flag: Kept | None = None
-
-    def copy(self) -> Known:
-        """The same for a child."""
-        return Known(self.kept[:], self.flag)
-
-    def keep(self, *kept: Kept) -> None:
-        """These rows may explain what comes; the newest is asked first."""
-        new = {(one.row, one.part) for one in kept}
-        self.kept = [*kept, *(old for old in self.kept if (old.row, old.part) not in new)]
-
-
-# What the answer of each form depends on. Of the others no kept row explains any.
-DEPENDS: dict[str, tuple[str, ...]] = (
-    {"ids": (IDS,), "bset": (BOUNDING,), "bits": (BITS,), "groups": (GROUPS,)}
-    | dict.fromkeys(("caps", "ambis", "capdrop"), (CAPS,))
-    | dict.fromkeys(("capsetraw", "ambraise"), (CAPS, BOUNDING, BITS))
-    | dict.fromkeys(("securebits", "keepcaps"), (CAPS, BITS))
-    | dict.fromkeys((*ID_CALLS, "signal"), (IDS, CAPS))
-    | dict.fromkeys(("setfsuid", "setfsgid", "exec", "ptrace"), (FILE_IDS, CAPS, IDS))
-    | dict.fromkeys(("open", "check", "access"), (FILE_IDS, CAPS, IDS, GROUPS))
-    | dict.fromkeys(filerows.FORMS, (FILE_IDS, CAPS, GROUPS))
-)
-
-# What each form changes, where the kernel makes it and the program refuses it, or the reverse.
-CHANGED: dict[str, tuple[str, ...]] = (
-    {"capdrop": (BOUNDING,), "setgroups": (GROUPS,), "exec": (IDS, CAPS, FILE_IDS)}
-    | dict.fromkeys(("ambraise", "amblower", "ambclear", "capsetraw"), (CAPS,))
-    | dict.fromkeys(("securebits", "keepcaps"), (BITS, CAPS))
-    | dict.fromkeys(set(ID_CALLS) - {"setgroups"}, (IDS, FILE_IDS, CAPS))
-    | {"setfsuid": (FILE_IDS, CAPS), "setfsgid": (FILE_IDS,), "nonewprivs": (BITS, IDS, CAPS)}
-    | dict.fromkeys(filerows.FORMS, ())
-)
-
 # The answers that rules give. Another one, as that a task isn't there, no row explains.
 RULED = ("ok", "eperm", "einval", "eacces")
+
+
+@dataclass(frozen=True)
+class Own:
+    """What explains an answer by itself: a row, with what holds here, or a text of the log."""
+
+    row: str = ""
+    sure: bool = True
+    why: str = ""
+    text: str = ""
 
 
 @dataclass
@@ -134,8 +94,12 @@ class Explainer:
     tracer: bool | None = None
     files: dict[str, str] = field(default_factory=dict)
     tasks: dict[str, Known] = field(default_factory=dict)
+    # The first task of each task's process: an id call of libc is every thread's of it.
+    firsts: dict[str, str] = field(default_factory=dict)
     # By which rows a file may be another one than the program says.
     changed: dict[str, list[Kept]] = field(default_factory=dict)
+    # Tasks that end in the program by a row, and their children, which aren't there.
+    ended: dict[str, Kept] = field(default_factory=dict)
     _told: set[str] = field(default_factory=set)
 
     def text(self, begins: str, sure: bool = True, since: str = "", why: str = "") -> str:
@@ -154,15 +118,48 @@ class Explainer:
         """What is known of a task."""
         return self.tasks.setdefault(task, Known())
 
+    def threads(self, line: Line) -> list[str]:
+        """The tasks whose credentials a line changes: an id call that isn't raw is all threads'."""
+        task = line.words[0]
+        if line.words[1] not in ID_CALLS or line.text.split()[1] == "raw":
+            return [task]
+        return self.process(task)
+
+    def process(self, task: str) -> list[str]:
+        """The threads of a task's process."""
+        first = self.firsts.get(task, task)
+        return [task, *(one for one, its in self.firsts.items() if its == first and one != task)]
+
+    def changes(self, line: Line, *kept: Kept) -> None:
+        """These rows may explain what comes of the tasks whose credentials a line changes."""
+        for task in self.threads(line):
+            self.known(task).keep(*kept)
+
+    def makes(self, number: int, line: Line, kept: Kept) -> None:
+        """The kernel makes a call by a row that the program refuses: what it leaves is another."""
+        form = line.words[1]
+        only = USERS if form in UID_WORDS else GROUP_IDS if form in GID_WORDS else None
+        parts = [replace(kept, part=part, more=None, bits=None, ids=only)
+                 for part in CHANGED.get(form, ())]  # fmt: skip
+        if form == "securebits":
+            # The bits above the eighth decide nothing here.
+            before = self.probe.before(number)
+            bits = int(line.words[2]) ^ before.securebits if before else LOW_BITS
+            parts = [replace(one, bits=bits & LOW_BITS) for one in parts]
+        self.changes(line, *parts)
+        if form in filerows.FORMS:
+            name = line.words[2]
+            self.changed[name] = [replace(kept, part=FILE), *self.changed.get(name, [])]
+
     def goes_on_as(self, before: str, after: str) -> None:
         """A task is in another namespace from here on, under another name, or a child of it is.
 
-        Its sets and bits are new there, and its ids are what they were.
+        Its sets and bits are new there, and its ids are those that the kernel has.
         """
-        kept = [one for one in self.known(before).kept if one.part in (IDS, FILE_IDS, GROUPS)]
-        self.tasks[after] = Known(kept, self.known(before).flag)
+        self.tasks[after] = Known(flag=self.known(before).flag)
+        self.firsts[after] = after
 
-    def see(self, number: int, line: Line) -> None:
+    def see(self, number: int, line: Line, report: str) -> None:
         """Keeps what a line means for later ones."""
         words = line.words
         if words[0] == "file":
@@ -174,21 +171,41 @@ class Explainer:
         succeeds = line.answer is None or line.answer.startswith("ok")
         if words[1] in ("spawn", "fork"):
             self.tasks[words[2]] = known.copy()
+            if words[0] in self.ended:
+                self.ended[words[2]] = self.ended[words[0]]
+            first = self.firsts.setdefault(words[0], words[0])
+            self.firsts[words[2]] = first if words[1] == "spawn" else words[2]
+        elif words[1] == "exit":
+            self.firsts.pop(words[0], None)
         elif not succeeds:
             return
         elif words[1] in ("setresuid", "setresgid") and words[3] == "-1":
             if keeps_filesystem_id(words, self.probe.before(number)):
-                known.keep(Kept(FILESYSTEM_IDS, FILE_IDS, number, line.text))
+                self.changes(line, Kept(FILESYSTEM_IDS, FILE_IDS, number, line.text))
+            self.leads_on(line, report)
+        elif words[1] in UID_WORDS | GID_WORDS | {"securebits"}:
+            self.leads_on(line, report)
         elif words[1] == "dumpable":
-            known.flag = None
+            for one in self.process(words[0]):
+                self.known(one).flag = None
+                self.known(one).sets_dumpable()
         elif words[1] == "exec":
             known.flag = self.flag(number, line)
             changed = self.changed.get(words[2], [])
             known.keep(*(replace(one, part=part) for one in changed for part in (IDS, CAPS)))
-            known.keep(*self.executed(number, line, self.file(line)))
+            known.leads_on("exec")
+            executed = self.executed(number, line, self.file(line))
+            known.keep(*executed)
+            known.sets_dumpable(*executed, *known.of_ids())
         elif words[1] in filerows.FORMS:
             rows_of = [Kept(one, FILE, number, line.text) for one in filerows.kept(line)]
             self.changed[words[2]] = rows_of + self.changed.get(words[2], [])
+
+    def leads_on(self, line: Line, report: str) -> None:
+        """A call that is made here and in Linux leaves what it decided by, where that differs."""
+        for task in self.threads(line) if report.startswith("ok") else ():
+            self.known(task).leads_on(line.words[1])
+            self.known(task).settles(line.words)
 
     def file(self, line: Line) -> str:
         """The file of a line, as a line that declares it."""
@@ -204,101 +221,145 @@ class Explainer:
 
     def executed(self, number: int, line: Line, file: str) -> list[Kept]:
         """What an execve may have made of the credential otherwise."""
-        words = file.split()
-        mode = int(words[5], 8) if len(words) > 5 else 0
-        set_id, counts = mode & 0o6000, mode & 0o6000 or " caps " in file
         before = self.probe.before(number)
-        found: list[tuple[str, str, bool | None]] = []
+        sure = before is not None and self.tracer is not None
+        kept = Kept("", "", number, line.text)
         if " nosuid" in file:
             return []
-        if before is None or before.no_new_privs:
-            if " caps " in file:
-                found.append((NO_NEW_PRIVS_FILE, CAPS, None))
-            if before is None or before.users[0] != before.users[1] or " caps " in file:
-                found += [(NO_NEW_PRIVS_IDS, part, None) for part in (IDS, FILE_IDS, CAPS)]
+        found = self.under_no_new_privs(before, file, kept)
         if before is None or not before.no_new_privs:
-            if set_id and line.facts.unmapped:
-                found += [(UNMAPPED_OWNER, part, None) for part in (IDS, FILE_IDS, CAPS)]
-            if set_id and (before is None or keeps_ambient(before, words)):
-                found.append((SET_ID, CAPS, True))
-            if counts and not self.tracer:
-                found += [(TRACED, IDS, None), (TRACED, FILE_IDS, None), (TRACED, CAPS, None)]
-            if not counts and (before is None or loses_ambient(before)):
-                found.append((PLAIN_FILE, CAPS, False))
-        sure = before is not None and self.tracer is not None
-        return [
-            Kept(one, part, number, line.text, more, sure or one == UNMAPPED_OWNER)
-            for one, part, more in found
-        ]
+            found += self.in_force(before, line, file, kept)
+        return [replace(one, sure=sure or one.row == UNMAPPED_OWNER) for one in found]
+
+    def under_no_new_privs(self, before: Values | None, file: str, kept: Kept) -> list[Kept]:
+        """What it may have made otherwise of a task that may gain nothing."""
+        if before is not None and not before.no_new_privs:
+            return []
+        found = []
+        if " caps " in file:
+            found += gains_nothing(before, replace(kept, row=NO_NEW_PRIVS_FILE))
+        if before is None or differ(before) or " caps " in file:
+            found += [replace(kept, row=NO_NEW_PRIVS_IDS, part=part) for part in (IDS, FILE_IDS)]
+            found += gains_nothing(before, replace(kept, row=NO_NEW_PRIVS_IDS))
+        return found
+
+    def in_force(
+        self, before: Values | None, line: Line, file: str, kept: Kept
+    ) -> list[Kept]:
+        """What it may have made otherwise by set-id bits and an attribute that are in force."""
+        words = file.split()
+        mode = int(words[5], 8) if len(words) > 5 else 0
+        # The set-group-ID bit has effect with the group's execute bit alone.
+        of_user, of_group = mode & 0o4000, mode & 0o2010 == 0o2010
+        set_id, counts = of_user or of_group, of_user or of_group or " caps " in file
+        only = None if of_user and of_group else USERS if of_user else GROUP_IDS
+        ambient = before.sets[4] if before else None
+        found = []
+        if set_id and line.facts.unmapped:
+            found += [replace(kept, row=UNMAPPED_OWNER, part=IDS, ids=only)]
+            found += [replace(kept, row=UNMAPPED_OWNER, part=FILE_IDS, ids=only)]
+            found += [replace(kept, row=UNMAPPED_OWNER, part=CAPS)]
+        if set_id and (before is None or keeps_ambient(before, words)):
+            found += [replace(kept, row=SET_ID, part=CAPS, more=True, bits=ambient)]
+        # Over a user namespace that its own user made a user's strace has every capability.
+        if counts and not self.tracer and not line.facts.inside:
+            reset = before is None or is_reset(before)
+            kept = replace(kept, ids=None if reset else only)
+            parts = (IDS, FILE_IDS) if reset or set_id else ()
+            found += [replace(kept, row=TRACED, part=part) for part in parts]
+            found += gains_nothing(before, replace(kept, row=TRACED))
+        if not counts and (before is None or loses_ambient(before)):
+            found += [replace(kept, row=PLAIN_FILE, part=CAPS, more=False, bits=ambient)]
+        return found
 
     def explain(self, number: int, line: Line, report: str) -> str | None:
         """The reason why the kernel's answer is another one than the report's."""
         words = line.words
-        known = self.known(words[0])
         kernel, told = (line.answer or "").split()[0], report.split()[0]
+        if told == "no":
+            return self.since(self.ended.get(words[0]) or self.ended.get(words[-1]))
         # Then the thread that makes the call first may, and another one may not.
-        told = "ok" if told == "aborted" else told
+        aborted, told = told == "aborted", "ok" if told == "aborted" else told
         if told not in RULED:
             return None
         own = self.own(number, line, kernel, told)
-        if own is not None:
-            begins, text = own
-            if begins and kernel == "ok":
-                parts = CHANGED.get(words[1], ())
-                known.keep(*(Kept(begins, part, number, line.text) for part in parts))
-            return text
-        depends = DEPENDS.get(words[1], ())
-        more = has_more(words[1], line.answer or "", report)
-        for kept in known.kept:
-            if kept.part in depends and (more is None or kept.more in (None, more)):
-                if kernel == "ok" and told != "ok":
-                    parts = CHANGED.get(words[1], ())
-                    known.keep(*(Kept(kept.row, part, kept.number, kept.text) for part in parts))
-                return self.text(kept.row, kept.sure, f"line {kept.number}: {kept.text}")
-        for kept in self.changed.get(words[2], []) if words[1] in OF_FILES else []:
-            return self.text(kept.row, kept.sure, f"line {kept.number}: {kept.text}")
-        flag = self.known(words[3] if words[1] == "ptrace" else words[0]).flag
-        if flag and (words[1] == "dumped" or (words[1], kernel) == ("ptrace", "eperm")):
-            return self.text(flag.row, flag.sure, f"line {flag.number}: {flag.text}")
-        if words[1] == "ptrace" and kernel == "eperm" and line.facts.inside:
-            return self.text(OUTER, sure=False)
-        if words[1] == "ptrace":
-            return self.text(LOOKS if kernel == "eperm" else CREATOR, sure=False)
-        if words[1] == "dumped":
-            return self.text(EXECVE_FLAG, sure=False)
-        # A log that was recorded inside a user namespace doesn't tell what that denies.
-        denied = words[1] == "setgroups" and (kernel, told) == ("eperm", "ok")
-        return self.text(DENIED_GROUPS, sure=False) if denied else None
+        kept = self.kept(line, report)
+        if own is not None and (own.sure or kept is None):
+            if own.row and kernel == "ok":
+                self.makes(number, line, Kept(own.row, "", number, line.text))
+            return own.text or self.text(own.row, own.sure, why=own.why)
+        if kept is None and words[1] == "ptrace":
+            return self.looked(line, kernel)
+        if kept is not None and aborted:
+            self.ended |= dict.fromkeys(self.process(words[0]), kept)
+        if kept is not None and kernel == "ok" and told != "ok":
+            self.makes(number, line, kept)
+        return self.since(kept)
 
-    def own(self, number: int, line: Line, kernel: str, told: str) -> tuple[str, str] | None:
-        """The row that explains an answer by itself, with its text; the log may explain it too."""
+    def since(self, kept: Kept | None) -> str | None:
+        """What is told of a row that comes from an earlier line."""
+        return kept and self.text(kept.row, kept.sure, f"line {kept.number}: {kept.text}")
+
+    def kept(self, line: Line, report: str) -> Kept | None:
+        """The row of an earlier line by which the task, or the file, is another one in Linux."""
+        words = line.words
+        if words[1] in ("dumped", "ptrace") and (flag := self.flagged(line)):
+            return flag
+        found = reason(self.known(words[0]).kept, words, line.answer or "", report)
+        if found is None and words[1] in OF_FILES:
+            return next(iter(self.changed.get(words[2], [])), None)
+        if found is None and words[1] == "ptrace":
+            target = self.known(words[3]).kept
+            return next((one for one in target if one.part in (DUMPABLE, IDS, CAPS)), None)
+        return found
+
+    def flagged(self, line: Line) -> Kept | None:
+        """The execve since which a process isn't dumpable in Linux, where the line shows that."""
+        words, answer = line.words, line.answer
+        if words[1] == "dumped":
+            return self.known(words[0]).flag if answer == "ok 0" else None
+        return self.known(words[3]).flag if answer == "eperm" else None
+
+    def looked(self, line: Line, kernel: str) -> str | None:
+        """Why one task may look into another, or may not."""
+        facts = line.facts
+        if kernel == "ok":
+            opens = line.call is not None and line.call.name in OPENS
+            begins = CREATOR if facts.maker else LOOKS if opens else None
+            return self.text(begins, sure=facts.maker) if begins else None
+        return self.text(OUTER if facts.outside else LOOKS, sure=facts.outside)
+
+    def own(self, number: int, line: Line, kernel: str, told: str) -> Own | None:
+        """What explains an answer by itself: a row, or the log."""
         words, facts = line.words, line.facts
         form, pair = words[1], (kernel, told)
         if pair == ("eperm", "ok") and facts.filtered:
             where = f"{LOG} line {facts.filtered} of it installs a seccomp filter"
-            return where, f"{where}, which can refuse so (seccomp(2))"
+            return Own(where, text=f"{where}, which can refuse so (seccomp(2))")
+        if facts.meanwhile:
+            text = f"{LOG} line {facts.meanwhile} changes {words[-1]} while this call is under way"
+            return Own(text=text)
         if form == "securebits" and int(words[2]) > 255:
-            return SECUREBITS, self.text(SECUREBITS)
-        if form == "setgroups" and pair == ("eperm", "ok") and facts.denied:
-            return DENIED_GROUPS, self.text(DENIED_GROUPS)
+            return Own(SECUREBITS)
+        if form == "setgroups" and pair == ("eperm", "ok"):
+            # A log that was recorded inside a user namespace doesn't tell what that denies.
+            return Own(DENIED_GROUPS, sure=facts.denied)
         if form in ID_CALLS and pair == ("einval", "ok"):
-            return UNMAPPED, self.text(UNMAPPED)
+            return Own(UNMAPPED)
         if form == "signal":
             return self.signal(number, line, pair)
         if form == "exec" and kernel in ("eperm", "einval") and told == "ok":
             before = self.probe.before(number)
-            under = before is None or before.no_new_privs
-            holds = under and " caps " in self.file(line)
-            text = self.text(NO_NEW_PRIVS_FILE, before is not None) if holds else ""
-            return (NO_NEW_PRIVS_FILE, text) if holds else None
+            holds = (before is None or before.no_new_privs) and " caps " in self.file(line)
+            return Own(NO_NEW_PRIVS_FILE, before is not None) if holds else None
         if form in filerows.FORMS:
             begins = filerows.refused(line, pair)
-            return (begins, self.text(begins)) if begins else None
+            return Own(begins) if begins else None
         if form in ("exec", "open", "check", "access"):
             return self.refused(number, line, pair)
         return None
 
-    def signal(self, number: int, line: Line, pair: tuple[str, str]) -> tuple[str, str] | None:
+    def signal(self, number: int, line: Line, pair: tuple[str, str]) -> Own | None:
         """Why a signal is allowed or refused otherwise."""
         facts = line.facts
         if pair == ("ok", "eperm"):
@@ -307,76 +368,24 @@ class Explainer:
         else:
             outside = facts.outside and has_kill(self.probe.before(number))
             begins = COUNTS if pair == ("eperm", "ok") and outside else None
-        return (begins, self.text(begins)) if begins else None
+        return Own(begins) if begins else None
 
-    def refused(self, number: int, line: Line, pair: tuple[str, str]) -> tuple[str, str] | None:
+    def refused(self, number: int, line: Line, pair: tuple[str, str]) -> Own | None:
         """Why the kernel refuses a file that the program allows."""
         if pair == ("eperm", "ok") and not line.words[1] == "exec":
-            return "", self.text(NOT_MODE)
+            return Own(NOT_MODE)
         if pair != ("eacces", "ok"):
             return None
-        if line.facts.noexec:
-            return "", self.text(NOT_MODE, why="the file's mount has noexec")
+        if line.facts.noexec and wanted(line) & 1:
+            place = line.facts.place
+            return Own(text=f"{LOG} the mount of {place} has noexec, which refuses so (execve(2))")
         before = self.probe.before(number)
         if by_capability(before, line):
-            why = "the file's owner or group isn't mapped in the namespace"
-            return "", self.text(COUNTS, why=why)
+            return Own(COUNTS, why="the file's owner or group isn't mapped in the namespace")
         searched = before.searched if before else {}
         closed = [place for place, may in searched.items() if not may]
         if closed:
-            return "", self.text(DIRECTORIES, why=f"{closed[0]} may not be searched")
-        count = line.facts.place.count("/")
-        if searched and len(searched) == count:
-            return "", self.text(NOT_MODE, why="every directory of the path may be searched")
-        return "", self.text(DIRECTORIES, sure=False)
-
-
-def keeps_filesystem_id(words: list[str], before: Values | None) -> bool:
-    """Whether setresuid(2) or setresgid(2) changes nothing, and so leaves the filesystem id."""
-    if before is None:
-        return True
-    real, effective, saved, filesystem = (
-        before.users if words[1] == "setresuid" else before.group_ids
-    )
-    kept = words[2] in ("-1", str(real)) and words[4] in ("-1", str(saved))
-    return kept and effective != filesystem
-
-
-def stays_dumpable(before: Values, words: list[str]) -> bool:
-    """Whether Linux has a process dumpable after the execve of this file: its new effective ids are
-    the real ones, and it may read the file."""
-    mode, owner, group = int(words[5], 8), int(words[3]), int(words[4])
-    in_force = not before.no_new_privs and "nosuid" not in words
-    user = owner if in_force and mode & 0o4000 else before.users[1]
-    group_id = group if in_force and mode & 0o2010 == 0o2010 else before.group_ids[1]
-    shift = 6 if owner == before.users[3] else 0
-    if not shift and group in (before.group_ids[3], *before.groups):
-        shift = 3
-    reads = bool(mode >> shift & 4) or bool(before.sets[2] & READS)
-    return (user, group_id) == (before.users[0], before.group_ids[0]) and reads
-
-
-def keeps_ambient(before: Values, words: list[str]) -> bool:
-    """Whether Linux leaves the ambient set over the execve of a file with set-id bits."""
-    mode, owner, group = int(words[5], 8), int(words[3]), int(words[4])
-    user_stays = not mode & 0o4000 or owner == before.users[1]
-    group_stays = mode & 0o2010 != 0o2010 or group in (before.group_ids[3], *before.groups)
-    return bool(before.sets[4]) and user_stays and group_stays
-
-
-def loses_ambient(before: Values) -> bool:
-    """Whether execve of a plain file empties the ambient set, by the filesystem group."""
-    return bool(before.sets[4]) and before.group_ids[3] != before.group_ids[1]
-
-
-def has_more(form: str, kernel: str, report: str) -> bool | None:
-    """Whether the kernel's task has more capabilities than the report's; None if untold."""
-    words, others = kernel.split(), report.split()
-    if form == "caps" and len(words) == len(others):
-        pairs = list(zip(words[1:4], others[1:4], strict=True))
-        return any(int(one.split("=")[-1], 16) & ~int(other, 16) for one, other in pairs)
-    if form in ("ambis", "bset") and len(words) == len(others) == 2:
-        return words[1] == "1"
-    if form in ("ids", "bits", "groups", "setfsuid", "setfsgid"):
-        return None
-    return words[0] == "ok" if words[0] != others[0] else None
+            return Own(DIRECTORIES, why=f"{closed[0]} may not be searched")
+        if searched and len(searched) == line.facts.place.count("/"):
+            return Own(NOT_MODE, why="every directory of the path may be searched")
+        return Own(DIRECTORIES, sure=False)

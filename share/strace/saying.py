@@ -11,7 +11,7 @@ from .moves import argument
 from .passed import Passed
 from .script import NO_FACTS, Facts, Line, Script
 from .spaces import led
-from .tasks import Task, Tasks
+from .tasks import Process, Task, Tasks
 from .together import Joined, Together
 
 NO_MAP = (
@@ -59,7 +59,7 @@ class Sayer:
             all_threads = words[0] in ID_CALLS and not raw
             acting = task.ids.acting()
             for one in task.process.threads if all_threads else [task]:
-                one.ids.after(words)
+                one.ids.after(words, one.process.space.root())
             if words[0] == "dumpable" or task.ids.acting() != acting:
                 task.process.dumpable = words == ["dumpable", "1"]
         space = task.process.space
@@ -103,6 +103,11 @@ class Sayer:
         else:
             said = capset(call.args, call.result, 0 if nobody else task.number)
         self.say(task, call, said if mine else None)
+
+    def with_race(self, facts: Facts, task: Task, other: Process, call: Call) -> Facts:
+        """The same with where another process changes while the call asks about it."""
+        line = 0 if other is task.process else self.together.meanwhile(other, call)
+        return replace(facts, meanwhile=line)
 
     def id_call(self, task: Task, call: Call) -> None:
         """A call that is one line where every thread of the process makes it, else the thread's."""

@@ -34,10 +34,13 @@ class Facts:
     # Whether the file's owner or group has no number in the task's user namespace.
     unmapped: bool = False
     # Whether sender and target of a signal are in different sessions; whether the target is outside
-    # of the sender's user namespace and those below; whether it is in one of the sender's making.
+    # of the sender's user namespace and those below, or of a look isn't dumpable and has executed
+    # its program there; whether it is in one of the sender's making.
     apart: bool = False
     outside: bool = False
     maker: bool = False
+    # The line at which the process that is asked about begins to change, while the call asks.
+    meanwhile: int = 0
     # Whether the task is in a namespace of the log that takes no groups.
     denied: bool = False
     # The file as it is there, and whether the task, or one that is looked into, is in a user

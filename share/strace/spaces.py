@@ -7,9 +7,9 @@ the ids of a call are led through the map that the log writes into `uid_map` or 
 from __future__ import annotations
 
 import re
-from dataclasses import dataclass, field, replace
+from dataclasses import dataclass, field
 
-from .calls import ID_CALLS, Said, Unheld
+from .calls import Said, Unheld
 
 # The greatest id.
 GREATEST = 4294967294
@@ -65,12 +65,24 @@ class Space:
         """The user who is root here, in the initial namespace; None where nobody is."""
         return self.outside(0, groups=False)
 
+    def roots(self) -> list[int | None]:
+        """Who is root here, and in the namespaces above."""
+        return [self.root(), *(self.parent.roots() if self.parent else ())]
+
+    def is_made_by(self, user: int, space: Space) -> bool:
+        """Whether that user of another namespace made it, or the one that it is below of."""
+        if self.parent is None:
+            return False
+        mine = self.parent is space and self.owner == user
+        return mine or self.parent.is_made_by(user, space)
+
     def is_within(self, other: Space) -> bool:
         """Whether it is the other one, or below it."""
         return self is other or (self.parent is not None and self.parent.is_within(other))
 
     def write(self, name: str, text: str) -> None:
-        """A map is written, or `deny` into setgroups."""
+        """A map is written, or `deny` into setgroups; runc writes the end of its string too."""
+        text = text.partition("\0")[0]
         if name == "setgroups":
             self.denied = text.strip() == "deny"
             return
@@ -98,65 +110,9 @@ class Space:
                 )
 
 
-@dataclass
-class Ids:
-    """The ids of a task as the calls of the log leave them, by the initial namespace."""
-
-    users: list[int] = field(default_factory=lambda: [0, 0, 0, 0])
-    groups: list[int] = field(default_factory=lambda: [0, 0, 0, 0])
-    others: list[int] = field(default_factory=list)
-    no_new_privs: bool = False
-
-    def copy(self) -> Ids:
-        """The same for a child."""
-        return replace(self, users=self.users[:], groups=self.groups[:], others=self.others[:])
-
-    def acting(self) -> tuple[int, int, int, int]:
-        """The effective and the filesystem ids: where one changes, the process isn't dumpable."""
-        return self.users[1], self.users[3], self.groups[1], self.groups[3]
-
-    def after(self, words: list[str]) -> None:
-        """A call that succeeded has changed them."""
-        name, values = words[0], [int(word) for word in words[1:] if re.fullmatch(r"-?\d+", word)]
-        if name == "setgroups":
-            self.others = values
-        elif name == "nonewprivs":
-            self.no_new_privs = True
-        elif name in ID_CALLS or name in ("setfsuid", "setfsgid"):
-            ids = self.users if name.endswith("uid") else self.groups
-            set_ids(ids, name.replace("gid", "uid"), values, self.users[1] == 0)
-
-    def executes(self, words: list[str]) -> None:
-        """The effective ids after an execve of this file: kind, owner, group and mode."""
-        mode = int(words[3], 8)
-        if not self.no_new_privs and "nosuid" not in words:
-            if mode & 0o4000:
-                self.users[1] = int(words[1])
-            if mode & 0o2010 == 0o2010:
-                self.groups[1] = int(words[2])
-        for ids in (self.users, self.groups):
-            ids[2] = ids[3] = ids[1]
-
-
 def is_number(word: str) -> bool:
     """Whether it is an id or a count, as a map has them."""
     return re.fullmatch(r"[0-9]{1,10}", word) is not None
-
-
-def set_ids(ids: list[int], name: str, values: list[int], is_root: bool) -> None:
-    """What a call that succeeded makes of real, effective, saved and filesystem id."""
-    kept = [old if new == -1 else new for old, new in zip(ids, values, strict=False)]
-    if name == "setfsuid":
-        # Its result doesn't tell whether it was permitted: setfsuid(2).
-        ids[3] = values[0] if values[0] != -1 and (is_root or values[0] in ids) else ids[3]
-    elif name == "setuid":
-        is_new = values[0] not in (ids[0], ids[2])
-        ids[:] = [values[0]] * 4 if is_root or is_new else [ids[0], values[0], ids[2], values[0]]
-    elif name == "setresuid":
-        ids[:] = [*kept, kept[1]]
-    elif name == "setreuid":
-        saves = values[0] != -1 or (values[1] != -1 and values[1] != ids[0])
-        ids[:] = [kept[0], kept[1], kept[1] if saves else ids[2], kept[1]]
 
 
 def led(said: Said, space: Space) -> Said | None:

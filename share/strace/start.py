@@ -6,7 +6,7 @@ import re
 from dataclasses import dataclass, field
 
 from .calls import ALL_CAPABILITIES, CAPABILITIES, GROUPS
-from .spaces import Ids
+from .ids import Ids
 
 # setuid(2) and its kin leave the sets as they are while this flag is set (capabilities(7)).
 NO_SETUID_FIXUP = 4
@@ -32,6 +32,12 @@ class Start:
     def call(self, words: str) -> None:
         """One call more of the task."""
         self.lines.append(f"{self.task} {words}")
+
+    def in_the_middle(self) -> list[str]:
+        """The lines where a log begins with a task that runs already: what leads it to its ids isn't
+        the log's, and doesn't make it less dumpable."""
+        led = any(" setres" in line for line in self.lines)
+        return [*self.lines, *(["t1 dumpable 1"] if led else [])]
 
     def inits(self) -> list[str]:
         """The lines that create the first tasks, all of one process."""
@@ -86,7 +92,9 @@ class Status:
 
     def ids(self) -> Ids:
         """The ids, as calls change them."""
-        return Ids(self.users[:], self.groups[:], self.others[:], self.no_new_privs)
+        sets = self.permitted, self.inheritable, self.effective, self.bounding, self.ambient
+        ids = Ids(self.users[:], self.groups[:], self.others[:], self.no_new_privs)
+        return ids.with_sets(*sets, self.securebits or 0)
 
     def set_ids(self) -> tuple[list[int], list[int], list[int]]:
         """The ids that libc sets in all threads of a process alike."""

@@ -5,10 +5,11 @@ from __future__ import annotations
 from dataclasses import dataclass, field
 
 from . import lines
+from .ids import Ids
 from .opened import Descriptors
 from .pids import Pids, foreign
 from .places import Located, Where
-from .spaces import Ids, Space
+from .spaces import Space
 
 
 @dataclass
@@ -21,8 +22,9 @@ class Process:
     # Its session, and the line of the log at which it installed a seccomp filter.
     session: int = 0
     filtered: int = 0
-    # Its user namespace.
+    # Its user namespace, and the one where it executed its program.
     space: Space = field(default_factory=Space)
+    executed: Space = field(default_factory=Space)
     # Its PID namespace, and that of its children.
     pids: Pids = field(default_factory=Pids)
     below: Pids = field(default_factory=Pids)
@@ -59,18 +61,21 @@ class Tasks:
         self.told: list[str] = []
         self._tasks = 0
         self._processes = 0
+        self._begin = Process(0)
 
     def first(self, pid: int) -> Task:
         """The first task, with its process."""
         self._processes += 1
         own = Pids(is_log=True)
-        return self._add(Task(0, pid, Process(self._processes, pids=own, below=own)))
+        self._begin = Process(self._processes, pids=own, below=own)
+        self._begin.executed = self._begin.space
+        return self._add(Task(0, pid, self._begin))
 
     def fork(self, pid: int, parent: Task, flags: frozenset[str] = frozenset()) -> Task:
         """A task of a process of its own."""
         self._processes += 1
         process = Process(self._processes, program=parent.process.program)
-        process.space = parent.process.space
+        process.space, process.executed = parent.process.space, parent.process.executed
         process.session, process.filtered = parent.process.session, parent.process.filtered
         process.dumpable = parent.process.dumpable
         process.pids = Pids() if "CLONE_NEWPID" in flags else parent.process.below
@@ -129,6 +134,13 @@ class Tasks:
         if number is None:
             return None
         return self.by_pid.get(number if told else asker.process.pids.of(number))
+
+    def in_proc(self, text: str, pids: Pids | None) -> Task | None:
+        """The task that a folder of /proc is of: by its number in the PID namespace that /proc was
+        mounted for, which else is the one where the log begins; or by `@` and the log's."""
+        number = int(text.removeprefix("@"))
+        known = pids or self._begin.pids
+        return self.by_pid.get(number if text.startswith("@") else known.of(number))
 
     def lives(self, task: Task) -> bool:
         """Whether the task hasn't ended."""

@@ -14,12 +14,15 @@ from collections.abc import Collection
 from dataclasses import dataclass
 
 from .calls import ID_CALLS
-from .log import CREATIONS, Call, Gone, Item
+from .log import CREATIONS, EXECUTIONS, Call, Gone, Item
 from .tasks import Process, Task
 
 # What a thread may still do of which nobody asks what its ids are: to end, and to signal others of
 # its process, as Go's runtime does all the time.
 UNASKED = ("exit", "exit_group", "tgkill")
+
+# Calls that may change who makes them.
+CHANGING = frozenset([*ID_CALLS, *EXECUTIONS, "setfsuid", "setfsgid", "capset", "prctl"])
 
 # A signal within a process is always allowed, whatever ids the sender has.
 SIGNALS = frozenset({"kill", "tkill", "tgkill"})
@@ -56,7 +59,11 @@ class Together:
         saying = frozenset(saying) - SIGNALS
         self._places: dict[int, list[int]] = {}
         self._last: dict[int, int] = {}
+        # Where in the log each task's calls begin and end that change its credential.
+        self._changes: dict[int, list[tuple[int, int]]] = {}
         for place, item in enumerate(items):
+            if isinstance(item, Call) and changes(item):
+                self._changes.setdefault(item.pid, []).append((item.first, item.last))
             if isinstance(item, Gone) or (isinstance(item, Call) and item.name in saying):
                 self._places.setdefault(item.pid, []).append(place)
             if isinstance(item, Call) and item.name not in UNASKED:
@@ -78,6 +85,16 @@ class Together:
         if len(made) == 1 or max(one.before for one in made) >= after:
             return None
         return Joined(min(after, max(one.place for one in made)), made, leaving)
+
+    def meanwhile(self, process: Process, call: Call) -> int:
+        """The line at which a thread of the process begins to change its credential, while another
+        task's call is under way: which of the two comes first the log doesn't tell. 0 for none."""
+        for thread in process.threads:
+            found = self._changes.get(thread.pid, [])
+            last = bisect_right(found, (call.last, call.last))
+            if last and found[last - 1][1] > call.first:
+                return found[last - 1][0]
+        return 0
 
     def call(self, place: int) -> Call:
         """The call at a place."""
@@ -104,6 +121,12 @@ class Together:
                 return Made(thread, place, before, after) if is_same(item, call) else None
             before = place
         return None
+
+
+def changes(call: Call) -> bool:
+    """Whether a call may change the credential of who makes it."""
+    asks = "".join(call.args[:1]).startswith(("PR_GET", "PR_CAPBSET_READ"))
+    return call.name in CHANGING and not asks
 
 
 def makes_thread(call: Call) -> bool:

@@ -6,6 +6,8 @@ import re
 
 from .log import Call
 from .moves import OPENS, argument
+from .script import Facts
+from .tasks import Process, Task
 
 # What asks by the real ids, and is refused by EPERM. What comes after the check may fail by EFAULT.
 MEMORY = ("process_vm_readv", "process_vm_writev")
@@ -43,3 +45,12 @@ def look(call: Call) -> tuple[str, list[str], str] | None:
         return None
     said = answered(call, "EACCES" if mode == "fs" else "EPERM")
     return None if said is None or not targets else (mode, targets, said)
+
+
+def facts(task: Task, other: Process) -> Facts:
+    """What is known of the user namespaces of who looks and of the process that is looked into."""
+    space = task.process.space
+    return Facts(
+        outside=not (other.dumpable or other.executed.is_within(space)),
+        maker=other.space.is_made_by(task.ids.users[1], space),
+    )

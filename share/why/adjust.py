@@ -5,7 +5,7 @@ from __future__ import annotations
 from . import sources
 from .ids import same
 from .names import (
-    ALL_FLAGS, AMBIENT, BOUNDING, EFFECTIVE, INHERITABLE, KEEP_CAPS, KEEP_CAPS_LOCKED, LAST, LOCKS,
+    ALL_FLAGS, AMBIENT, BOUNDING, EFFECTIVE, INHERITABLE, KEEP_CAPS_LOCKED, LAST, LOCKS,
     NO_AMBIENT_RAISE, NUMBERS, PERMITTED, cap_name, cap_number, flags, named,
 )  # fmt: skip
 from .reason import BITS, CAPS, Fault, Reason

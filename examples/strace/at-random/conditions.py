@@ -1,4 +1,7 @@
-"""What has to stand in a log for what credtrace-compare tells of it, by its text alone."""
+"""What has to stand in a log for what credtrace-compare tells of it, by its text alone.
+
+What is told of a line has to stand in the log before that line ends.
+"""
 
 from __future__ import annotations
 
@@ -7,6 +10,7 @@ from collections.abc import Callable
 from pathlib import Path
 
 from strace import filerows, rows
+from strace.sources import merged
 
 # What is told of a difference: the call, the kernel's answer, the report's, the script's line.
 DIFFERENCE = re.compile(
@@ -43,9 +47,7 @@ CONDITIONS: dict[str, Condition] = {
     rows.UNMAPPED: lambda *_: False,
     rows.DENIED_GROUPS: since_is(r"setgroups", SPACE),
     rows.DIRECTORIES: lambda found, log, since, user: found["kernel"] == "eacces",
-    rows.NOT_MODE: lambda found, log, since, user: (
-        found["kernel"] == "eperm" or "MS_NOEXEC" in log or "noexec" not in since
-    ),
+    rows.NOT_MODE: lambda found, log, since, user: found["kernel"] in ("eperm", "eacces"),
     rows.COUNTS: has(SPACE),
     rows.CONTINUE: lambda found, log, since, user: "SIGCONT) = 0" in found["call"],
     rows.NO_NEW_PRIVS_FILE: has(NEW_PRIVS),
@@ -71,7 +73,9 @@ CONDITIONS: dict[str, Condition] = {
 
 
 def text_of(logs: list[str]) -> str:
-    """All of the log."""
+    """All of the log, of one in parts in the order of its times."""
+    if len(logs) > 1:
+        return "\n".join(merged(logs))
     return "".join(Path(log).read_text(encoding="latin-1") for log in logs)
 
 
@@ -88,7 +92,8 @@ def unfounded(out: str, logs: list[str], user: bool) -> str | None:
         if "no row explains it" in reason:
             return block
         since = SINCE.search(block)
-        if not holds(found, reason, log, since["text"] if since else "", user):
+        before = "\n".join(log.split("\n")[: int(found["line"])])
+        if not holds(found, reason, before, since["text"] if since else "", user):
             return f"what is told doesn't hold:\n{block}"
     return None
 
@@ -96,9 +101,19 @@ def unfounded(out: str, logs: list[str], user: bool) -> str | None:
 def holds(found: re.Match[str], reason: str, log: str, since: str, user: bool) -> bool:
     """Whether a reason holds."""
     if reason.startswith(rows.LOG):
-        return "SECCOMP_MODE_FILTER" in log
+        return is_told(reason, log)
     told = re.sub(r"^docs/LINUX\.md(, it may be)?: ", "", reason)
     for begins, condition in CONDITIONS.items():
         if told.startswith(begins):
             return condition(found, log, since, user)
     return False
+
+
+def is_told(reason: str, log: str) -> bool:
+    """Whether the log itself says so, at the line that is named."""
+    if "has noexec" in reason:
+        return "MS_NOEXEC" in log
+    line = int(re.search(r" line (\d+)", reason)[1])
+    there = [*log.split("\n"), ""][line - 1 : line]
+    changes = "is under way" in reason and re.search(r"set\w+\(|exec|prctl|capset", "".join(there))
+    return bool(changes) or bool(re.search(r"SECCOMP_\w*MODE_FILTER", "".join(there)))
