@@ -163,7 +163,7 @@ LOCKED = f"""\
                 }};
             }}
 """
-MOVED = "error[borrow-e0382]: use of moved value: `turn`"
+MOVED = "error[borrow-e0382]: borrow of moved value: `turn`"
 THEN_RUN = """\
 /// Runs the lanes as threads, and then all lines in order: that report is written.
 fn lanes_then_run<R: Threads + Wait + Sync, S: Source, K: Sink, G: Gate + Sync>(
