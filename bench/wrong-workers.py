@@ -1,7 +1,8 @@
 """Tries wrong ways of running lanes: bench/wrong-workers.sh calls it.
 
-No contract says that two lanes overlap, that a decision is made where the lock is free, or that a
-worker comes to the gate. The meetings of `cred_rows` (src/tests/meetings.rt) show it. Here each
+No contract says that two lanes overlap, or that a worker comes to the gate. That a decision is made
+where the lock is free is a matter of types: to decide under it, the kernel has to be given a way
+that it hasn't got. The meetings of `cred_rows` (src/tests/meetings.rt) show all three. Here each
 wrong body is put into a copy of the crates, and the meetings are held there, unproved, by `rt try
 --test`: one of them at least must fail. First they are held by the crates as they are, and must
 pass. The first that goes otherwise is told, with status 1.
@@ -20,11 +21,14 @@ TOP = Path(__file__).resolve().parent.parent
 TESTS = "crates/cred_rows/src/tests"
 TEST = "tests::gates::lanes_meet_at_their_decisions"
 # The modules that the meetings use. The tests of the others are left out of the copy.
-MODULES = ("cuts", "faults", "gate", "gates", "meetings", "runs")
+MODULES = ("crowd", "cuts", "faults", "gate", "gates", "meetings", "runs")
 # How long the meetings may take, in seconds. A lane that waits in vain takes some thirty; on a busy
 # machine many more.
 LIMIT = 1200
 WORKERS = "crates/cred_lanes/src/workers.rt"
+DECISION = "crates/cred_kernel/src/decision.rt"
+GUARD = "crates/cred_kernel/src/guard.rt"
+KERNEL = "crates/cred_kernel/src/kernel.rt"
 WORK = "crates/cred_work/src/work.rt"
 PROGRAM = "crates/cred_program/src/program.rt"
 
@@ -38,7 +42,7 @@ class Wrong:
     edits: tuple
 
 
-# What each is made of: the worker's parallel map, its decision, and what `lanes` calls.
+# What each is made of: the worker's parallel map, the decision, and what `lanes` calls.
 MAP = """\
     let done = thread::map_vec(
         rt,
@@ -50,22 +54,30 @@ MAP = """\
     )?;
 """
 USES_MAP = "use std::thread;\n"
-DECIDED = """\
-                let Ok(()) = decide(alloc, kernel, gate, turn.lane(), work) else {
+CALLED = "decide(alloc, kernel.cells(), gate, &turn, work)"
+DECIDED = f"""\
+            Step::Work(work) => {{
+                let Ok(()) = {CALLED} else {{
+                    drop(step);
+                    return Err(NoMemory);
+                }};
+            }}
 """
 LINE = "    let line = work.line();\n"
 BEFORE = "    gate.pause(lane, line, Place::BeforeDecision);\n"
-PERFORM = "    kernel.do_work(alloc, work)?;\n"
+STOP = "    let stop = InDecision { gate, lane, line };\n"
+PERFORM = "    perform(alloc, cells.shared(), &stop, work)?;\n"
+UNSTOPPED = "    perform(alloc, cells.shared(), &cred_work::NoPause, work)?;\n"
 AFTER = "    gate.pause(lane, line, Place::AfterDecision);\n"
-BOTH = BEFORE + PERFORM + AFTER
+ALL = BEFORE + STOP + PERFORM + AFTER
 LANES = "Ok(Some(Command::Lanes)) => read_and_lanes(rt, alloc, source, sink, gate),"
 USAGE = "/// Writes the usage line.\nfn tell_usage"
 USES_IO = "use cred_io::{Sink, Source};\n"
 
 
 def decides_as(body):
-    """The worker's decision, made otherwise."""
-    return ((WORKERS, BOTH, body),)
+    """The decision, made otherwise."""
+    return ((DECISION, ALL, body),)
 
 
 def passes_over(lent):
@@ -78,16 +90,11 @@ def passes_over(lent):
     }}
 
 """
-    body = """\
-    let is_passed_over = work.is_passed_over();
-    if !is_passed_over {
-        gate.pause(lane, line, Place::BeforeDecision);
-    }
-    kernel.do_work(alloc, work)?;
-    if !is_passed_over {
-        gate.pause(lane, line, Place::AfterDecision);
-    }
-"""
+    body = f"""\
+    if work.is_passed_over() {{
+        return perform(alloc, cells.shared(), &cred_work::NoPause, work);
+    }}
+{ALL}"""
     return ((WORK, line, is_one + line), *decides_as(body))
 
 
@@ -105,11 +112,39 @@ FROM_THE_LAST = """\
     }
     done.reverse();
 """
-LOCKED = """\
-                let locked = kernel.lock(rt);
-                let decided = decide(alloc, kernel, gate, turn.lane(), work);
-                drop(locked);
-                let Ok(()) = decided else {
+# The lock is tried before the words are read, and kept until the decision is made.
+HELD = """\
+    let held = kernel.lock.try_lock();
+    let decided = perform(alloc, kernel.cells().shared(), &stop, work);
+    drop(held);
+    let Ok(()) = decided else {
+        return Err(NoMemory);
+    };
+"""
+# The guard decides by the turn that it has.
+RELEASES = "    /// Releases the lock, and gives the turn back.\n"
+GUARD_DECIDES = """\
+    /// Decides a work.
+    pub fn decide<G: crate::gate::Gate>(
+        &self,
+        alloc: std::alloc::Global,
+        gate: &G,
+        work: &mut Work,
+    ) -> Result<(), NoMemory> {
+        crate::decision::decide(alloc, self.cells, gate, &self.turn, work)
+    }
+
+"""
+STEPPED = "    let step = advance_some(&mut guard)?;\n"
+STEPPED_AND_DECIDED = """\
+    let mut step = advance_some(&mut guard)?;
+    if let Step::Work(work) = &mut step {
+        let Ok(()) = guard.decide(alloc, gate, work) else {
+            drop(guard);
+            drop(step);
+            return Err(NoMemory);
+        };
+    }
 """
 THEN_RUN = """\
 /// Runs the lanes as threads, and then all lines in order: that report is written.
@@ -162,20 +197,53 @@ BODIES = (
             (PROGRAM, USES_IO, USES_MORE_IO),
         ),
     ),
-    Wrong("locked", "a worker decides under the lock", ((WORKERS, DECIDED, LOCKED),)),
-    Wrong("no-gate", "a worker comes to no gate", decides_as(PERFORM)),
+    Wrong(
+        "held-over",
+        "the kernel tries its lock round each decision",
+        (
+            (KERNEL, "    lock: Mutex<Locked<K>>,", "    pub(crate) lock: Mutex<Locked<K>>,"),
+            (DECISION, "    cells: &KernelCells<K>,\n", "    kernel: &crate::Kernel<K>,\n"),
+            (DECISION, "use crate::cells::KernelCells;\n", ""),
+            (DECISION, PERFORM, HELD),
+            (WORKERS, CALLED, CALLED.replace("kernel.cells()", "kernel")),
+        ),
+    ),
+    Wrong(
+        "under-the-lock",
+        "a worker decides before it releases the lock",
+        (
+            (GUARD, RELEASES, GUARD_DECIDES + RELEASES),
+            (WORKERS, "TurnList, decide}", "TurnList}"),
+            (WORKERS, "turn, step)?;", "turn, step, alloc, gate)?;"),
+            (WORKERS, DECIDED, "            Step::Work(_) => (),\n"),
+            (WORKERS, "fn go_on<K: Name, R: Wait>(", "fn go_on<K: Name, G: Gate, R: Wait>("),
+            (WORKERS, "    last: Step,\n", "    last: Step,\n    alloc: Global,\n    gate: &G,\n"),
+            (WORKERS, STEPPED, STEPPED_AND_DECIDED),
+        ),
+    ),
+    Wrong("no-gate", "a worker comes to no gate", decides_as(UNSTOPPED)),
     Wrong("no-gate-of-signals", "none for signals", passes_over("Signalling")),
     Wrong("no-gate-of-files", "none for files that are opened", passes_over("Opening")),
     Wrong("no-gate-of-questions", "none for questions", passes_over("Asking")),
     Wrong("no-gate-of-changes", "none for changes", passes_over("Altering")),
-    Wrong("before-alone", "it comes to the place before alone", decides_as(BEFORE + PERFORM)),
-    Wrong("after-alone", "it comes to the place after alone", decides_as(PERFORM + AFTER)),
+    Wrong("before-alone", "it comes to the place before alone", decides_as(BEFORE + UNSTOPPED)),
+    Wrong("in-alone", "it comes to the place within alone", decides_as(STOP + PERFORM)),
+    Wrong("after-alone", "it comes to the place after alone", decides_as(UNSTOPPED + AFTER)),
+    Wrong(
+        "before-and-after",
+        "it doesn't come to the place within",
+        decides_as(BEFORE + UNSTOPPED + AFTER),
+    ),
     Wrong(
         "exchanged",
         "it comes to the places the other way round",
-        decides_as(AFTER + PERFORM + BEFORE),
+        decides_as(AFTER + STOP + PERFORM + BEFORE),
     ),
-    Wrong("next-line", "it comes with the next line", ((WORKERS, LINE, LINE.replace(";", " + 1;")),)),
+    Wrong(
+        "next-line",
+        "it comes with the next line",
+        ((DECISION, LINE, LINE.replace(";", " + 1;")),),
+    ),
 )
 
 

@@ -1,3 +1,4 @@
 pub mod Advances
+pub mod Deciding
 pub mod Locks
 pub mod Turns

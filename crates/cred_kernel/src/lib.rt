@@ -1,4 +1,4 @@
-//! The kernel: one lock round the book, its cells and the roll, and a turn for each lane.
+//! The kernel: one lock round the book and the roll, the cells beside it, and a turn for each lane.
 //!
 //! Under the lock stand the journal, which is one that the script may have so far, and the roll,
 //! each of whose rows has its lane's numbers in that journal. Each row is lent to the lane's turn.
@@ -7,10 +7,18 @@
 //! compared, and there is no answer for a mismatch. Once all turns have ended, the journal is a
 //! legal one.
 //!
-//! `Kernel::lock`, `advance` and `finish` may wait for the lock. Nothing else here waits: whoever
-//! has the lock may make several events, one step each.
+//! Whoever gets the lock gives the turn for it, and has it back when the lock is released. In
+//! between several events may be made, one step each, but none that waits for a decision: to decide
+//! takes the turn, and sees nothing of the lock.
+//!
+//! `Kernel::lock` may wait for the lock. `decide` waits for nobody but the caller's gate, and
+//! nothing else here waits.
 #![tactic(auto)]
 
+pub mod cells;
+mod decision;
+mod gate;
+pub mod guard;
 pub mod kernel;
 mod locked;
 pub mod name;
@@ -18,7 +26,11 @@ pub mod parts;
 mod passes;
 pub mod token;
 
-pub use kernel::{Kernel, KernelGuard};
+pub use cells::KernelCells;
+pub use decision::decide;
+pub use gate::{Gate, NoGate, Place};
+pub use guard::KernelGuard;
+pub use kernel::Kernel;
 pub use name::Name;
 pub use parts::Parts;
 pub use token::{Turn, TurnList};

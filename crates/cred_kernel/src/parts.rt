@@ -11,7 +11,7 @@ use cred_hold::Cells;
 use cred_ids::NoMemory;
 use cred_script::Script;
 use cred_turn::Roll;
-use cred_work::{Work, perform};
+use cred_work::{NoPause, Work, perform};
 use std::alloc::Global;
 use std::marker::Model;
 
@@ -121,7 +121,7 @@ fn decide_and_enter(
     ensures counts { OnOk result (HasEntered book.old book.new lane 1) }
 {
     let mut work = work;
-    let Ok(()) = perform(alloc, cells, &mut work) else {
+    let Ok(()) = perform(alloc, cells, &NoPause, &mut work) else {
         drop(work);
         return Err(NoMemory);
     };

@@ -5,11 +5,11 @@ use Rattle.atomic_table.specs.Seated.{TableId}
 use Rattle.cred_record.specs.File.{File}
 use Rattle.cred_model.specs.Script.{Script}
 use Rattle.cred_work.specs.Work.{Work}
-use Rattle.cred_work.specs.DecidedWorks.{IsDecided}
 use Rattle.cred_book.specs.Works.{IsWorkOf}
 use Rattle.cred_book.specs.declared.step.Step.{Step}
 use Rattle.cred_book.specs.declared.step.Step.TheVariants.{More, Ended}
 use Rattle.cred_book.specs.declared.step.Step.TheVariants as step
+use Rattle.cred_kernel.specs.Deciding.{IsDue}
 use Rattle.cred_kernel.specs.Turns.{Seen, LaneHasEnded}
 
 -- the turn of the same lane, which has ended
@@ -21,13 +21,6 @@ abbrev pub AllFinished : {E : Type 0} → Script → List (Result Seen E) → Ty
 AllFinished {E} script done =
     (k : ℕ) (d : Result Seen E) → k < length done
     → IfOk (slice_index_or done k d) (λ turn. (turn.lane ≡ k + 1) × LaneHasEnded script turn)
-
--- the work, decided, of the same line and of the same kernel
-pub record IsDue
-    (script : Script) (infos : List File) (cells : TableId) (work decided : Work) : Type 0 where
-  pub line : decided.line ≡ work.line
-  pub work_is : IsWorkOf script infos cells decided
-  pub right : IsDecided decided
 
 -- What a worker comes back to the lock with, by what its last step came to: the work of its lane
 -- that is out, which is decided, or nothing where none is out.

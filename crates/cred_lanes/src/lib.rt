@@ -4,17 +4,17 @@
 //! A worker makes the events of its lane, one after another, until the lane has ended. Each is made
 //! under the kernel's lock, of which the worker lets go after one event, and later, when its lane
 //! has had more, after some. But an event that waits for a decision on a credential goes out as a
-//! work: the worker lets go of the lock, decides, and gets the lock again to enter the event. Which
+//! work: the worker lets go of the lock, decides, and gets the lock again to enter the event. It
+//! can't do otherwise: to get the lock it gives its turn, and to decide it needs the turn. Which
 //! worker gets the lock next is up to the threads, and no clause says it: in whatever order the
 //! events come, the journal is legal for the script.
 //!
 //! `drive` and `lanes` may wait for the lock, and what they promise holds if they return.
 #![tactic(auto)]
 
-mod gate;
 mod run;
 mod workers;
 
-pub use gate::{Gate, NoGate, Place};
+pub use cred_kernel::{Gate, NoGate, Place};
 pub use run::lanes;
 pub use workers::drive;

@@ -2,11 +2,10 @@
 ghost use Rattle.std.specs.Prelude.{◌≡◌, IfOk};
 ghost use Rattle.cred_model.specs.Journal.{IsLegal};
 
-use crate::gate::Gate;
 use crate::workers::drive;
 use cred_book::Journal;
 use cred_ids::NoMemory;
-use cred_kernel::{Kernel, Name, Parts};
+use cred_kernel::{Gate, Kernel, Name, Parts};
 use cred_script::Script;
 use std::alloc::Global;
 use std::marker::Brand;

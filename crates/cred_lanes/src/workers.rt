@@ -1,15 +1,14 @@
 //! The workers, one for each lane.
-ghost use Rattle.std.specs.Prelude.{◌≡◌, length, IfOk, OnOk, None, Some};
+ghost use Rattle.std.specs.Prelude.{◌≡◌, length, IfOk, None, Some};
 ghost use Rattle.cred_script.specs.Lanes.{lanes};
 ghost use Rattle.cred_work.specs.DecidedWorks.{IsDecided};
 ghost use Rattle.cred_book.specs.Works.{IsWorkOf};
 ghost use Rattle.cred_kernel.specs.Turns.{AreAllTurns, NoWorkIsOut, HaveEnded};
-ghost use Rattle.cred_lanes.specs.Works.{AllFinished, Finished, HasGoneOn, IsDue, IsReturn};
+ghost use Rattle.cred_lanes.specs.Works.{AllFinished, Finished, HasGoneOn, IsReturn};
 
-use crate::gate::{Gate, Place};
 use cred_book::Step;
 use cred_ids::NoMemory;
-use cred_kernel::{Kernel, KernelGuard, Name, Turn, TurnList};
+use cred_kernel::{Gate, Kernel, KernelGuard, Name, Turn, TurnList, decide};
 use cred_work::Work;
 use std::alloc::Global;
 use std::sync::Wait;
@@ -20,7 +19,7 @@ use std::thread::Threads;
 /// another. The turns come back in the same order, and each of them has ended. It may wait.
 ///
 /// The turns are all turns of the kernel, in the order of their lanes from 1, and none of them has
-/// a line that is being decided. Each worker comes to the gate before and after each decision.
+/// a line that is being decided. Each worker comes to the gate before, in and after each decision.
 ///
 /// # Errors
 ///
@@ -70,11 +69,11 @@ fn work<K: Name, G: Gate, R: Wait>(
     let mut turn = turn;
     let mut step = Step::More;
     for _ in rt.forever() {
-        step = go_on(rt, kernel, &mut turn, step)?;
+        (turn, step) = go_on(rt, kernel, turn, step)?;
         match &mut step {
             Step::More => (),
             Step::Work(work) => {
-                let Ok(()) = decide(alloc, kernel, gate, turn.lane(), work) else {
+                let Ok(()) = decide(alloc, kernel.cells(), gate, &turn, work) else {
                     drop(step);
                     return Err(NoMemory);
                 };
@@ -95,21 +94,22 @@ fn work<K: Name, G: Gate, R: Wait>(
 /// # Errors
 ///
 /// `NoMemory` if an allocation of an event, a work, the state or an entry fails: the events before
-/// it stay.
+/// it stay, and the turn is lost.
 fn go_on<K: Name, R: Wait>(
     rt: &R,
     kernel: &Kernel<K>,
-    turn: &mut Turn<K>,
+    turn: Turn<K>,
     last: Step,
-) -> Result<Step, NoMemory>
-    requires { IsReturn K.script K.infos K.cells turn.old last }
-    ensures { IfOk result (HasGoneOn K.script K.infos K.cells turn.old turn.new) }
+) -> Result<(Turn<K>, Step), NoMemory>
+    requires { IsReturn K.script K.infos K.cells turn last }
+    ensures { IfOk result (λ gone. HasGoneOn K.script K.infos K.cells turn gone.0 gone.1) }
 {
-    let mut kernel = kernel.lock(rt);
+    let mut guard = kernel.lock(rt, turn);
     if let Step::Work(work) = last {
-        enter(&mut kernel, turn, work)?;
+        enter(&mut guard, work)?;
     }
-    advance_some(&mut kernel, turn)
+    let step = advance_some(&mut guard)?;
+    Ok((guard.release(), step))
 }
 
 /// Enters a work that was decided.
@@ -117,17 +117,13 @@ fn go_on<K: Name, R: Wait>(
 /// # Errors
 ///
 /// `NoMemory` if an allocation of the state or of an entry fails.
-fn enter<K: Name>(
-    kernel: &mut KernelGuard<'_, K>,
-    turn: &mut Turn<K>,
-    work: Work,
-) -> Result<(), NoMemory>
-    requires out { turn.old.numbers.out ≡ Some work.line }
+fn enter<K: Name>(guard: &mut KernelGuard<'_, K>, work: Work) -> Result<(), NoMemory>
+    requires out { guard.old.numbers.out ≡ Some work.line }
     requires work { IsWorkOf K.script K.infos K.cells work }
     requires decided { IsDecided work }
-    ensures { IfOk result (λ _. (turn.new.lane ≡ turn.old.lane) × (turn.new.numbers.out ≡ None)) }
+    ensures { IfOk result (λ _. (guard.new.lane ≡ guard.old.lane) × (guard.new.numbers.out ≡ None)) }
 {
-    match kernel.finish(turn, work) {
+    match guard.finish(work) {
         Ok(step) => {
             drop(step);
             Ok(())
@@ -139,51 +135,25 @@ fn enter<K: Name>(
     }
 }
 
-/// Makes some events of the turn's lane under the lock, up to the next that waits for a decision.
-/// Ended comes only where the lane has ended. No call changes the turn's lane.
+/// Makes some events of the lane under the lock, up to the next that waits for a decision. Ended
+/// comes only where the lane has ended. No call changes the turn's lane.
 ///
 /// # Errors
 ///
 /// `NoMemory` if an allocation of an event, a work, the state or an entry fails: the events before
 /// it stay.
-fn advance_some<K: Name>(
-    kernel: &mut KernelGuard<'_, K>,
-    turn: &mut Turn<K>,
-) -> Result<Step, NoMemory>
-    requires { turn.old.numbers.out ≡ None }
-    ensures { IfOk result (HasGoneOn K.script K.infos K.cells turn.old turn.new) }
+fn advance_some<K: Name>(guard: &mut KernelGuard<'_, K>) -> Result<Step, NoMemory>
+    requires { guard.old.numbers.out ≡ None }
+    ensures { IfOk result (HasGoneOn K.script K.infos K.cells guard.old guard.new) }
 {
-    let most = 1 + turn.entered() / PART;
+    let most = 1 + guard.entered() / PART;
     for _ in 0..most {
-        match kernel.advance(turn)? {
+        match guard.advance()? {
             Step::More => (),
             step => return Ok(step),
         }
     }
     Ok(Step::More)
-}
-
-/// Decides a work without the lock, where it stands: it is large, and to move it takes as long as
-/// most decisions. The gate is called before the decision and after it.
-///
-/// # Errors
-///
-/// `NoMemory` if an allocation of the decision fails.
-fn decide<K: Name, G: Gate>(
-    alloc: Global,
-    kernel: &Kernel<K>,
-    gate: &G,
-    lane: u32,
-    work: &mut Work,
-) -> Result<(), NoMemory>
-    requires { IsWorkOf K.script K.infos K.cells work.old }
-    ensures { OnOk result (IsDue K.script K.infos K.cells work.old work.new) }
-{
-    let line = work.line();
-    gate.pause(lane, line, Place::BeforeDecision);
-    kernel.do_work(alloc, work)?;
-    gate.pause(lane, line, Place::AfterDecision);
-    Ok(())
 }
 
 /// The turns, where every worker has ended its lane.

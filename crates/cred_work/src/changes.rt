@@ -5,6 +5,7 @@ ghost use Rattle.cred_model.specs.Change.{by_change};
 ghost use Rattle.cred_work.specs.Decisions.{put_by};
 
 use crate::made::BoxedMade;
+use crate::pause::{NoPause, Pause};
 use cred_decide::{Made, change as change_of};
 use cred_event::{Answer, Change};
 use cred_hold::{Cells, Hold, Writer, put, read};
@@ -36,22 +37,23 @@ pub fn alter(
     ensures base { base.new ≡ base.old }
     ensures same { OnErr result (writer.new ≡ writer.old) }
 {
-    let made = make(alloc, cells, base, change, file, chain)?;
+    let made = make(alloc, cells, &NoPause, base, change, file, chain)?;
     if let Ok(new) = &made {
         put(cells, writer, &new.cred);
     }
     Ok(made)
 }
 
-/// The same, for a decision that is kept: what the change makes gets memory of its own, before it
-/// is put.
+/// The same, for a decision that is kept, and that may be stopped once the words have been read:
+/// what the change makes gets memory of its own, before it is put.
 ///
 /// # Errors
 ///
 /// `NoMemory` if an allocation fails.
-pub(crate) fn alter_boxed(
+pub(crate) fn alter_boxed<P: Pause>(
     alloc: Global,
     cells: &Cells,
+    pause: &P,
     base: &mut Hold,
     change: &Change,
     file: Option<&FileInfo>,
@@ -65,7 +67,7 @@ pub(crate) fn alter_boxed(
     ensures base { base.new ≡ base.old }
     ensures same { OnErr result (writer.new ≡ writer.old) }
 {
-    match make(alloc, cells, base, change, file, chain)? {
+    match make(alloc, cells, pause, base, change, file, chain)? {
         Ok(new) => {
             let new = BoxedMade::new(alloc, new)?;
             put(cells, writer, new.cred());
@@ -77,9 +79,10 @@ pub(crate) fn alter_boxed(
 
 /// What the change makes of the credential that is held. The hold stays as it was.
 #[inline(always)]
-fn make(
+fn make<P: Pause>(
     alloc: Global,
     cells: &Cells,
+    pause: &P,
     base: &mut Hold,
     change: &Change,
     file: Option<&FileInfo>,
@@ -91,5 +94,6 @@ fn make(
     ensures base { base.new ≡ base.old }
 {
     let old = read(alloc, cells, base)?;
+    pause.pause();
     change_of(&old, file, chain, change)
 }

@@ -7,8 +7,9 @@ ghost use Rattle.cred_work.specs.Decisions.{PutStays};
 
 use crate::changes::alter_boxed;
 use crate::made::BoxedMade;
-use crate::questions::{decide, may_open};
-use crate::signals::decide_signal;
+use crate::pause::Pause;
+use crate::questions::{decide_paused, may_open_paused};
+use crate::signals::decide_signal_paused;
 use cred_event::{Answer, Change, Event, Query};
 use cred_hold::{Cells, Hold, Writer};
 use cred_ids::{Id, NoMemory};
@@ -93,7 +94,8 @@ impl Lent {
     }
 
     /// Decides the event, as the rules have it. The tokens stay, but for the new credential, which
-    /// the writer has put where the change isn't refused. It waits for nobody.
+    /// the writer has put where the change isn't refused. It waits for nobody but `pause`, which it
+    /// calls once the words have been read, before anything is decided by them.
     ///
     /// `file` is the file that the event names, if it names one, and `chain` has the root ids of
     /// the base's user namespace and of that one's ancestors, the nearest first.
@@ -103,10 +105,11 @@ impl Lent {
     /// `NoMemory` if an allocation fails. All stays as it was.
     // No call, since what it takes or gives is large, and would be moved.
     #[inline(always)]
-    pub fn decide(
+    pub fn decide<P: Pause>(
         &mut self,
         alloc: Global,
         cells: &Cells,
+        pause: &P,
         file: Option<&FileInfo>,
         chain: &[Id],
     ) -> Result<(), NoMemory>
@@ -121,7 +124,7 @@ impl Lent {
     {
         match self {
             Lent::Asking { hold, query, told } => {
-                *told = Some(decide(alloc, cells, hold, *query, file)?);
+                *told = Some(decide_paused(alloc, cells, pause, hold, *query, file)?);
             }
             Lent::Opening {
                 hold,
@@ -129,7 +132,7 @@ impl Lent {
                 may,
                 ..
             } => {
-                *may = Some(may_open(alloc, cells, hold, file, *want)?);
+                *may = Some(may_open_paused(alloc, cells, pause, hold, file, *want)?);
             }
             Lent::Signalling {
                 hold,
@@ -137,7 +140,7 @@ impl Lent {
                 may,
                 ..
             } => {
-                *may = Some(decide_signal(cells, hold, target));
+                *may = Some(decide_signal_paused(cells, pause, hold, target));
             }
             Lent::Altering {
                 base,
@@ -145,7 +148,7 @@ impl Lent {
                 change,
                 made,
             } => {
-                *made = Some(alter_boxed(alloc, cells, base, change, file, chain, writer)?);
+                *made = Some(alter_boxed(alloc, cells, pause, base, change, file, chain, writer)?);
             }
         }
         Ok(())

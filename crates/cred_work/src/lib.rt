@@ -4,12 +4,14 @@
 //! nobody.
 //!
 //! Works: events that wait for a decision on lent credentials, each with all that the decision
-//! needs, so that it can be made where no lock is held.
+//! needs, so that it can be made where no lock is held. A caller may stop a work's decision in its
+//! midst, once the words have been read.
 #![tactic(auto)]
 
 mod changes;
 mod lent;
 mod made;
+mod pause;
 mod performing;
 mod questions;
 mod signals;
@@ -18,6 +20,7 @@ mod work;
 pub use changes::alter;
 pub use lent::Lent;
 pub use made::{BoxedMade, unbox};
+pub use pause::{NoPause, Pause};
 pub use performing::perform;
 pub use questions::{decide, may_open};
 pub use signals::decide_signal;

@@ -6,6 +6,7 @@ ghost use Rattle.cred_rules.specs.Adjust.{read_in};
 ghost use Rattle.cred_model.specs.Answers.{checked, flag, reply};
 ghost use Rattle.cred_work.specs.Questions.{is_on_whole};
 
+use crate::pause::{NoPause, Pause};
 use cred_access::may_by;
 use cred_caps::{Cap, CapSet};
 use cred_decide::reply;
@@ -38,13 +39,34 @@ pub fn decide(
     ensures memory { OnErr result (is_on_whole query ≡ true) }
     ensures same { hold.new ≡ hold.old }
 {
+    decide_paused(alloc, cells, &NoPause, hold, query, file)
+}
+
+/// The same, where the decision may be stopped once the words have been read.
+#[inline(always)]
+pub(crate) fn decide_paused<P: Pause>(
+    alloc: Global,
+    cells: &Cells,
+    pause: &P,
+    hold: &mut Hold,
+    query: Query,
+    file: Option<&FileInfo>,
+) -> Result<Answer, NoMemory>
+    requires own { hold.old.id ≡ cells.now }
+    ensures told { IfOk result (λ answer. answer
+        ≡ reply (option_map (λ file. file.now) file.entry) hold.old.cred query) }
+    ensures memory { OnErr result (is_on_whole query ≡ true) }
+    ensures same { hold.new ≡ hold.old }
+{
     let told = match query {
         Query::Ids => {
             let (uid, gid) = read_ids(cells, hold);
+            pause.pause();
             Told::Ids { uid, gid }
         }
         Query::Caps => {
             let [perm, inh, eff, bound, amb] = read_caps(cells, hold);
+            pause.pause();
             Told::Caps {
                 perm,
                 inh,
@@ -55,18 +77,21 @@ pub fn decide(
         }
         Query::Capable(n) => {
             let [_, _, eff, _, _] = read_caps(cells, hold);
+            pause.pause();
             return Ok(flag(eff, n));
         }
         Query::Bset(n) => {
             let [_, _, _, bound, _] = read_caps(cells, hold);
+            pause.pause();
             return Ok(flag(bound, n));
         }
         Query::AmbIs(n) => {
             let [_, _, _, _, amb] = read_caps(cells, hold);
+            pause.pause();
             return Ok(flag(amb, n));
         }
-        Query::Check { want, .. } => return check(alloc, cells, hold, file, want),
-        Query::Groups | Query::Bits => return on_whole(alloc, cells, hold, query, file),
+        Query::Check { want, .. } => return check(alloc, cells, pause, hold, file, want),
+        Query::Groups | Query::Bits => return on_whole(alloc, cells, pause, hold, query, file),
     };
     Ok(Answer::Told(told))
 }
@@ -74,9 +99,10 @@ pub fn decide(
 /// The answer to a question for which the whole credential is read.
 // A call, since each question else pays for room for a credential.
 #[inline(never)]
-fn on_whole(
+fn on_whole<P: Pause>(
     alloc: Global,
     cells: &Cells,
+    pause: &P,
     hold: &mut Hold,
     query: Query,
     file: Option<&FileInfo>,
@@ -87,14 +113,16 @@ fn on_whole(
     ensures same { hold.new ≡ hold.old }
 {
     let cred = read(alloc, cells, hold)?;
+    pause.pause();
     reply(alloc, file, &cred, query)
 }
 
 /// The answer to the check of a file, by the parts of the credential that the check asks of.
 #[inline(always)]
-fn check(
+fn check<P: Pause>(
     alloc: Global,
     cells: &Cells,
+    pause: &P,
     hold: &mut Hold,
     file: Option<&FileInfo>,
     want: Want,
@@ -104,7 +132,7 @@ fn check(
         ≡ checked hold.old.cred (option_map (λ file. file.now) file.entry) want) }
     ensures same { hold.new ≡ hold.old }
 {
-    if may_open(alloc, cells, hold, file, want)? {
+    if may_open_paused(alloc, cells, pause, hold, file, want)? {
         Ok(Answer::Done)
     } else {
         Ok(Answer::Eacces)
@@ -127,12 +155,32 @@ pub fn may_open(
         ≡ (if may then Done else Eacces)) }
     ensures same { hold.new ≡ hold.old }
 {
+    may_open_paused(alloc, cells, &NoPause, hold, file, want)
+}
+
+/// The same, where the decision may be stopped once the words have been read.
+#[inline(always)]
+pub(crate) fn may_open_paused<P: Pause>(
+    alloc: Global,
+    cells: &Cells,
+    pause: &P,
+    hold: &mut Hold,
+    file: Option<&FileInfo>,
+    want: Want,
+) -> Result<bool, NoMemory>
+    requires own { hold.old.id ≡ cells.now }
+    ensures may { IfOk result (λ may.
+        checked hold.old.cred (option_map (λ file. file.now) file.entry) want
+        ≡ (if may then Done else Eacces)) }
+    ensures same { hold.new ≡ hold.old }
+{
     let Some(file) = file else {
         return Ok(false);
     };
     let (uid, gid) = read_ids(cells, hold);
     let [_, _, effective, _, _] = read_caps(cells, hold);
     let groups = read_groups(alloc, cells, hold)?;
+    pause.pause();
     Ok(may_by(&uid, &gid, &groups, effective, file, want))
 }
 

@@ -2,6 +2,7 @@
 ghost use Rattle.std.specs.Prelude.{◌≡◌, false};
 ghost use Rattle.cred_rules.specs.Access.{may_signal};
 
+use crate::pause::{NoPause, Pause};
 use cred_access::may_signal_by;
 use cred_hold::{Cells, Hold, read_caps, read_ids};
 
@@ -13,8 +14,24 @@ pub fn decide_signal(cells: &Cells, from: &mut Hold, to: &mut Hold) -> bool
     ensures value { result ≡ may_signal from.old.cred to.old.cred false }
     ensures same { (from.new ≡ from.old) × (to.new ≡ to.old) }
 {
+    decide_signal_paused(cells, &NoPause, from, to)
+}
+
+/// The same, where the decision may be stopped once the words have been read.
+#[inline(always)]
+pub(crate) fn decide_signal_paused<P: Pause>(
+    cells: &Cells,
+    pause: &P,
+    from: &mut Hold,
+    to: &mut Hold,
+) -> bool
+    requires own { (from.old.id ≡ cells.now) × (to.old.id ≡ cells.now) }
+    ensures value { result ≡ may_signal from.old.cred to.old.cred false }
+    ensures same { (from.new ≡ from.old) × (to.new ≡ to.old) }
+{
     let (sender, _) = read_ids(cells, from);
     let [_, _, effective, _, _] = read_caps(cells, from);
     let (target, _) = read_ids(cells, to);
+    pause.pause();
     may_signal_by(&sender, effective, &target, false)
 }

@@ -9,7 +9,7 @@ use cred_event::{Answer, Change, Query, Told};
 use cred_hold::{Cells, Master, make};
 use cred_ids::{Arg, Id, Kind, NoMemory};
 use cred_record::{Cred, IdList, first};
-use cred_work::{Asked, Lent, Work, perform};
+use cred_work::{Asked, Lent, NoPause, Work, perform};
 use std::alloc::Global;
 use std::test::Fail;
 
@@ -19,7 +19,7 @@ fn decided(alloc: Global, cells: &Cells, lent: Lent) -> Result<Lent, NoMemory>
 {
     let asked = Asked::new(alloc, 1, None, IdList::of(alloc, &[])?)?;
     let mut work = Work::of(asked, lent);
-    perform(alloc, cells, &mut work)?;
+    perform(alloc, cells, &NoPause, &mut work)?;
     let (_, lent) = work.apart();
     Ok(lent)
 }

@@ -5,7 +5,7 @@ use std::alloc::Global;
 use std::sync::atomic::{AtomicU64, Ordering};
 use std::thread;
 
-/// A place of a lane: before the decision of a line, or after it.
+/// A place of a lane: before the decision of a line, in it, or after it.
 #[derive(Clone, Copy, PartialEq, Eq, Debug)]
 pub(crate) struct At(pub(crate) u32, pub(crate) u32, pub(crate) Place);
 
@@ -15,8 +15,9 @@ impl At {
     fn distance(self) -> u64 {
         let At(_, line, place) = self;
         match place {
-            Place::BeforeDecision => 2 * u64::from(line),
-            Place::AfterDecision => 2 * u64::from(line) + 1,
+            Place::BeforeDecision => 3 * u64::from(line),
+            Place::InDecision => 3 * u64::from(line) + 1,
+            Place::AfterDecision => 3 * u64::from(line) + 2,
         }
     }
 }
@@ -30,8 +31,8 @@ pub(crate) struct Stop(pub(crate) At, pub(crate) &'static [At]);
 pub(crate) enum Fault {
     /// At this stop a lane has waited for others in vain.
     InVain(At),
-    /// A lane has come to a place of this line out of turn: after no place before the decision, or
-    /// before the place after the last one.
+    /// A lane has come to a place of this line out of turn: not before the decision, in it and
+    /// after it, one after another.
     OutOfTurn(u64),
     /// No lane has come to this stop.
     PassedBy(At),
@@ -54,13 +55,15 @@ const MET: u64 = 1;
 
 const IN_VAIN: u64 = 2;
 
-/// The stops, what has become of each, how far each lane has come, whether some wait was in vain,
-/// and the line of a place to which a lane has come out of turn. There is no line 0.
+/// The stops, what has become of each, how far each lane has come, to which place each has come
+/// last, whether some wait was in vain, and the line of a place to which a lane has come out of
+/// turn. There is no line 0.
 #[derive(Drop)]
 pub(crate) struct Held<'m> {
     stops: &'m [Stop],
     ends: Vec<AtomicU64>,
     lanes: Vec<AtomicU64>,
+    lasts: Vec<AtomicU64>,
     is_over: AtomicU64,
     out_of_turn: AtomicU64,
 }
@@ -81,6 +84,7 @@ impl Held<'_> {
             stops,
             ends: words(alloc, stops.len())?,
             lanes: words(alloc, LANES)?,
+            lasts: words(alloc, LANES)?,
             is_over: AtomicU64::new(0),
             out_of_turn: AtomicU64::new(0),
         })
@@ -109,20 +113,22 @@ impl Held<'_> {
     }
 
     /// Puts down that a lane has come to this place, and says whether it was its turn: a lane comes
-    /// to each decision twice, before it and after it, and makes one after another.
+    /// to each decision three times, before it, in it and after it, and makes one after another.
     fn arrive(&self, place: At) -> bool {
         let At(lane, line, side) = place;
-        let Some(word) = self.lanes.get(lane as usize) else {
+        let lane = lane as usize;
+        let (Some(furthest), Some(word)) = (self.lanes.get(lane), self.lasts.get(lane)) else {
             return false;
         };
         let last = word.load(Ordering::SeqCst);
-        if last < place.distance() {
-            word.store(place.distance(), Ordering::SeqCst);
-        }
+        word.store(place.distance(), Ordering::SeqCst);
         // A line whose commit came too late decides again.
+        if furthest.load(Ordering::SeqCst) < place.distance() {
+            furthest.store(place.distance(), Ordering::SeqCst);
+        }
         match side {
-            Place::BeforeDecision => last == 0 || (last % 2 == 1 && last / 2 <= u64::from(line)),
-            Place::AfterDecision => last / 2 == u64::from(line),
+            Place::BeforeDecision => last == 0 || (last % 3 == 2 && last / 3 <= u64::from(line)),
+            Place::InDecision | Place::AfterDecision => last + 1 == place.distance(),
         }
     }
 

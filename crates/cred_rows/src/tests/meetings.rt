@@ -1,7 +1,8 @@
 //! Meetings of lanes at a gate: scripts, where their lanes wait for each other, and what their
 //! reports must have then, whatever else the threads do.
+use crate::tests::crowd::SIXTEEN_STOPS;
 use crate::tests::gate::{At, Stop};
-use cred_lanes::Place::{AfterDecision, BeforeDecision};
+use cred_lanes::Place::{AfterDecision, BeforeDecision, InDecision};
 
 /// A script, where its lanes stop at their decisions, and lists of entries that its report has,
 /// each list in this order. Where two kinds of events are named, each event of the first comes
@@ -17,7 +18,7 @@ pub(crate) struct Meeting {
     pub(crate) apart: Option<(&'static str, &'static str)>,
 }
 
-pub(crate) const MEETINGS: [Meeting; 11] = [
+pub(crate) const MEETINGS: [Meeting; 15] = [
     Meeting {
         name: "over a broadcast",
         head: "init t1 p1 0 0 n0\nt1 spawn t2\nlane 1\nt1 ids\nlane 2\nt2 ids\n\
@@ -157,6 +158,80 @@ pub(crate) const MEETINGS: [Meeting; 11] = [
                 "16 ask h100160 ids -> ok 0 0 0 7 0 0 0 0",
             ],
         ],
+        apart: None,
+    },
+    // In the next four lane 1 has read the words that it decides by, and decides nothing yet, while
+    // lane 2 gets the lock again and again, and comes to the midst of a decision of its own.
+    Meeting {
+        name: "in a question",
+        head: "init t1 p1 0 0 n0\nt1 spawn t2\nlane 1\nt1 ids\nlane 2\nt2 ids\n\
+            t2 setresuid 5 5 5\nt2 ids\n",
+        pairs: 0,
+        tail: "",
+        stops: &[
+            Stop(At(2, 6, BeforeDecision), &[At(1, 4, InDecision)]),
+            Stop(At(1, 4, InDecision), &[At(2, 8, InDecision)]),
+        ],
+        entries: &[&[
+            "7 begin t2 setresuid 5 5 5 -> ok c1 s1 left 1",
+            "7 act 7 -> ok t1 c2 s2 left 0",
+            "8 take h100080 t2 -> ok c1 s1",
+            "4 ask h100040 ids -> ok 0 0 0 0 0 0 0 0",
+        ]],
+        apart: None,
+    },
+    Meeting {
+        name: "in a change",
+        head: "init t1 p1 0 0 n0\nt1 spawn t2\nlane 1\nt1 keepcaps 1\nlane 2\nt2 ids\n\
+            t2 setresuid 0 0 0\nt2 ids\n",
+        pairs: 0,
+        tail: "",
+        stops: &[
+            Stop(At(2, 6, BeforeDecision), &[At(1, 4, InDecision)]),
+            Stop(At(1, 4, InDecision), &[At(2, 8, InDecision)]),
+        ],
+        entries: &[&[
+            "4 prepare h100041 t1 h100040 -> ok s1",
+            "7 act 7 -> ok t1 c2 s3 left 0",
+            "8 take h100080 t2 -> ok c1 s2",
+            "4 change h100041 keepcaps 1 -> ok",
+            "4 commit h100041 -> stale c0 c2",
+            "4 commit h100041 -> ok c3 s1",
+        ]],
+        apart: None,
+    },
+    Meeting {
+        name: "in a signal",
+        head: "init t1 p1 1 1 n0\ninit t2 p2 0 0 n0\nlane 1\nt1 signal t2\nlane 2\nt2 ids\n\
+            t2 setresuid 1 1 1\nt2 ids\n",
+        pairs: 0,
+        tail: "",
+        stops: &[
+            Stop(At(2, 6, BeforeDecision), &[At(1, 4, InDecision)]),
+            Stop(At(1, 4, InDecision), &[At(2, 8, InDecision)]),
+        ],
+        entries: &[&[
+            "7 begin t2 setresuid 1 1 1 -> ok c2 s2 left 0",
+            "8 take h100080 t2 -> ok c2 s2",
+            "4 signal t1 h100040 t2 h100041 -> eperm",
+        ]],
+        apart: None,
+    },
+    Meeting {
+        name: "in an opening",
+        head: "file prog reg 0 0 0400\ninit t1 p1 0 0 n0\nt1 spawn t2\nlane 1\n\
+            t1 open prog r f1\nlane 2\nt2 ids\nt2 setresuid 5 5 5\nt2 ids\n",
+        pairs: 0,
+        tail: "",
+        stops: &[
+            Stop(At(2, 7, BeforeDecision), &[At(1, 5, InDecision)]),
+            Stop(At(1, 5, InDecision), &[At(2, 9, InDecision)]),
+        ],
+        entries: &[&[
+            "8 act 8 -> ok t1 c2 s2 left 0",
+            "9 take h100090 t2 -> ok c1 s1",
+            "5 open h100050 prog r f1 -> ok",
+        ]],
         apart: None,
     },
     // While an execve waits for its decision, the file's opener closes it, and the slot of the
@@ -304,44 +379,4 @@ pub(crate) const MEETINGS: [Meeting; 11] = [
         ],
         apart: Some(("take", "ask")),
     },
-];
-
-/// The places before the decisions of sixteen lanes.
-const SIXTEEN: [At; 16] = [
-    At(1, 18, BeforeDecision),
-    At(2, 20, BeforeDecision),
-    At(3, 22, BeforeDecision),
-    At(4, 24, BeforeDecision),
-    At(5, 26, BeforeDecision),
-    At(6, 28, BeforeDecision),
-    At(7, 30, BeforeDecision),
-    At(8, 32, BeforeDecision),
-    At(9, 34, BeforeDecision),
-    At(10, 36, BeforeDecision),
-    At(11, 38, BeforeDecision),
-    At(12, 40, BeforeDecision),
-    At(13, 42, BeforeDecision),
-    At(14, 44, BeforeDecision),
-    At(15, 46, BeforeDecision),
-    At(16, 48, BeforeDecision),
-];
-
-/// Each of sixteen lanes stands before its decision until all do.
-const SIXTEEN_STOPS: [Stop; 16] = [
-    Stop(At(1, 18, BeforeDecision), &SIXTEEN),
-    Stop(At(2, 20, BeforeDecision), &SIXTEEN),
-    Stop(At(3, 22, BeforeDecision), &SIXTEEN),
-    Stop(At(4, 24, BeforeDecision), &SIXTEEN),
-    Stop(At(5, 26, BeforeDecision), &SIXTEEN),
-    Stop(At(6, 28, BeforeDecision), &SIXTEEN),
-    Stop(At(7, 30, BeforeDecision), &SIXTEEN),
-    Stop(At(8, 32, BeforeDecision), &SIXTEEN),
-    Stop(At(9, 34, BeforeDecision), &SIXTEEN),
-    Stop(At(10, 36, BeforeDecision), &SIXTEEN),
-    Stop(At(11, 38, BeforeDecision), &SIXTEEN),
-    Stop(At(12, 40, BeforeDecision), &SIXTEEN),
-    Stop(At(13, 42, BeforeDecision), &SIXTEEN),
-    Stop(At(14, 44, BeforeDecision), &SIXTEEN),
-    Stop(At(15, 46, BeforeDecision), &SIXTEEN),
-    Stop(At(16, 48, BeforeDecision), &SIXTEEN),
 ];

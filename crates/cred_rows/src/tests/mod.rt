@@ -1,5 +1,6 @@
 //! The tests, a module for each kind.
 mod copies;
+mod crowd;
 mod cuts;
 mod declared;
 mod ends;

@@ -10,7 +10,7 @@ use cred_book::{Book, Step};
 use cred_grammar::{line_count, read};
 use cred_hold::Cells;
 use cred_ids::{NoMemory, limits};
-use cred_work::{Work, perform};
+use cred_work::{NoPause, Work, perform};
 use std::alloc::Global;
 use std::test::Fail;
 
@@ -95,7 +95,7 @@ fn decide_and_enter(
     ensures falls { OnOk result (steps_left book.new < steps_left book.old) }
 {
     let mut work = work;
-    let Ok(()) = perform(alloc, cells, &mut work) else {
+    let Ok(()) = perform(alloc, cells, &NoPause, &mut work) else {
         drop(work);
         return Err(NoMemory);
     };

@@ -5,12 +5,14 @@
 pub enum Place {
     /// Before a decision.
     BeforeDecision,
+    /// In a decision: the words of the credentials have been read, and nothing is decided by them.
+    InDecision,
     /// After the decision, before its event is entered.
     AfterDecision,
 }
 
-/// What a worker calls before and after each decision that it makes without the lock, so that a
-/// caller can hold a lane back there. It has not got the lock then, and no other lane waits for it.
+/// What a worker calls before, in and after each decision, so that a caller can hold a lane back
+/// there. The worker has not got the lock then, and no other lane waits for it.
 pub trait Gate {
     /// Returns when the worker of the lane may go on with the line.
     fn pause(&self, lane: u32, line: u32, place: Place);

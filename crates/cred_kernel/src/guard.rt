@@ -1,0 +1,104 @@
+//! The lock of a kernel, and the turn of who has it.
+ghost use Rattle.std.specs.Prelude.{◌≡◌, None, Some, IfOk, IfErr, OnOk, OnErr};
+ghost use Rattle.cred_work.specs.DecidedWorks.{IsDecided};
+ghost use Rattle.cred_book.specs.Works.{IsWorkOf};
+ghost use Rattle.cred_book.specs.declared.step.Step.TheVariants.{More};
+ghost use Rattle.cred_kernel.specs.Advances.{Advanced, TurnHasEntered};
+
+use crate::cells::KernelCells;
+use crate::locked::Locked;
+use crate::name::Name;
+use crate::token::Turn;
+use cred_book::{Step, Unfinished};
+use cred_ids::NoMemory;
+use cred_work::Work;
+use std::marker::Model;
+use std::sync::MutexGuard;
+
+/// The lock of a kernel, got by one thread, with the turn of the thread's lane: others wait until
+/// it is released. The turn comes back when the lock is released, and no sooner. So whoever has the
+/// lock has no turn in hand, and can't decide. Contracts see the turn.
+pub struct KernelGuard<'k, K: Name> {
+    pub(crate) cells: &'k KernelCells<K>,
+    pub(crate) locked: MutexGuard<'k, Locked<K>>,
+    pub(crate) turn: Turn<K>,
+}
+
+impl<'k, K: Name> Model for KernelGuard<'k, K> {
+    ghost use Rattle.cred_kernel.specs.Turns.{Seen};
+
+    ghost Value = { Seen };
+
+    ghost view = { λ g. g.turn };
+}
+
+/// Written out, so that it is proved here alone.
+impl<K: Name> Drop for KernelGuard<'_, K> {
+    fn drop(self) {
+        let KernelGuard {
+            cells: _,
+            locked,
+            turn,
+        } = self;
+        drop(locked);
+        drop(turn);
+    }
+}
+
+impl<K: Name> KernelGuard<'_, K> {
+    /// How many events of the lane have been entered.
+    pub fn entered(&self) -> u64
+        ensures { result ≡ self.now.numbers.entered }
+    {
+        self.turn.entered()
+    }
+
+    /// Makes the next event of the lane, or gives it out as a work where it waits for a decision.
+    /// The answer is Ended exactly if no line of the lane is left, and then the turn is as it was.
+    /// No call changes the turn's lane.
+    ///
+    /// # Errors
+    ///
+    /// `NoMemory` if an allocation of the event, the work, the state or the entry fails: the turn
+    /// is as it was.
+    pub fn advance(&mut self) -> Result<Step, NoMemory>
+        requires out { self.old.numbers.out ≡ None }
+        ensures step { IfOk result (Advanced K.script K.infos K.cells self.old self.new) }
+        ensures err { OnErr result (self.new ≡ self.old) }
+    {
+        let cells = self.cells;
+        self.locked.step(cells.shared(), &mut self.turn)
+    }
+
+    /// Takes a decided work of the lane back, and enters its event. It can't be a work that has
+    /// gone out under this lock: to decide one takes the turn.
+    ///
+    /// # Errors
+    ///
+    /// The work as it was, if an allocation of the state or of the entry fails: the turn is as it
+    /// was.
+    pub fn finish(&mut self, work: Work) -> Result<Step, Unfinished>
+        requires out { self.old.numbers.out ≡ Some work.line }
+        requires work { IsWorkOf K.script K.infos K.cells work }
+        requires decided { IsDecided work }
+        ensures more { IfOk result (λ step. step ≡ More) }
+        ensures entered { OnOk result (TurnHasEntered K.script 1 self.old self.new) }
+        ensures err { IfErr result (λ left. (left.work ≡ work) × (self.new ≡ self.old)) }
+    {
+        let cells = self.cells;
+        self.locked.finish(cells.shared(), &mut self.turn, work)
+    }
+
+    /// Releases the lock, and gives the turn back.
+    pub fn release(self) -> Turn<K>
+        ensures { result ≡ self.entry }
+    {
+        let KernelGuard {
+            cells: _,
+            locked,
+            turn,
+        } = self;
+        drop(locked);
+        turn
+    }
+}
