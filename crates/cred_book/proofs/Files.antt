@@ -7,10 +7,10 @@ use Rattle.cred_event.specs.declared.event.Event.{Event}
 use Rattle.cred_event.specs.declared.entry.Entry.{Entry}
 use Rattle.cred_model.specs.Script.{Script, Line}
 use Rattle.cred_model.specs.State.{State}
-use Rattle.cred_model.specs.Changing.{ChangesInSetup, FixesFiles, event_changes}
+use Rattle.cred_model.specs.FileChanges.{ChangesInSetup, FixesFiles, event_changes}
 use Rattle.cred_model.specs.Course.{Course, event_at}
 use Rattle.cred_model.specs.Journal.{entry_of, replay}
-use Rattle.cred_model.proofs.Changing.{event_of_change}
+use Rattle.cred_model.proofs.FileChanges.{event_of_change}
 use Rattle.cred_model.proofs.Journals.{replay-push}
 use Rattle.cred_sound.proofs.Infos.{keeps_infos}
 use Rattle.cred_cursor.specs.Cursor.{IsLaneCursor}

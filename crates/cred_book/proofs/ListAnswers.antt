@@ -19,7 +19,7 @@ use Rattle.cred_event.specs.declared.event.Change.TheVariants.{SetFs, Adjust, Ex
 use Rattle.cred_event.specs.declared.answer.Answer.{Answer}
 use Rattle.cred_event.specs.declared.answer.Answer.TheVariants.{Sealed, Kept, Began, Acted, Aborted, Stale}
 use Rattle.cred_event.specs.declared.answer.AbortCause.TheVariants as cause
-use Rattle.cred_model.specs.Changing.{changed_by}
+use Rattle.cred_model.specs.FileChanges.{changed_by}
 use Rattle.cred_model.specs.Script.{Script, chain_of, root_of, reaches}
 use Rattle.cred_model.specs.Dumpable.{differs, flag_of_value, flags_begun, flags_committed, is_dumpable, renewed}
 use Rattle.cred_model.specs.Ptrace.{may_trace}

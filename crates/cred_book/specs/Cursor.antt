@@ -7,7 +7,7 @@ use Rattle.std.specs.Option.{option_map_or}
 use Rattle.cred_ids.specs.Limits.{LINE_LIMIT}
 use Rattle.cred_event.specs.declared.entry.Entry.{Entry}
 use Rattle.cred_model.specs.Course.{Course}
-use Rattle.cred_model.specs.Changing.{FixesFiles}
+use Rattle.cred_model.specs.FileChanges.{FixesFiles}
 use Rattle.cred_model.specs.Script.{SetupFirst}
 use Rattle.cred_model.specs.Journal.{SoFar, lane_of, next, next_in_order, replay}
 use Rattle.cred_script.specs.Lanes.{lanes}

@@ -1,7 +1,7 @@
 //! What a book of a script has before anything has run.
 ghost use Rattle.std.specs.Prelude.{◌≡◌, ◌≤◌, ◌+◌, [], length, replicate, None, IfOk, OnOk};
 ghost use Rattle.cred_ids.specs.Limits.{LINE_LIMIT};
-ghost use Rattle.cred_model.specs.Changing.{FixesFiles};
+ghost use Rattle.cred_model.specs.FileChanges.{FixesFiles};
 ghost use Rattle.cred_model.specs.Script.{SetupFirst};
 ghost use Rattle.cred_model.specs.State.{opening};
 ghost use Rattle.cred_script.specs.Lanes.{lanes};

@@ -1,5 +1,5 @@
 -- Which answers and which events hold a list: to copy one of these takes memory.
-use Rattle.std.specs.Prelude.{⊤, Some, None}
+use Rattle.std.specs.Prelude.{⊤, Some}
 use Rattle.cred_record.specs.Calls.{IsSetGroups}
 use Rattle.cred_event.specs.declared.answer.Answer.{Answer}
 use Rattle.cred_event.specs.declared.answer.Answer.TheVariants.{Told}

@@ -5,7 +5,7 @@ use Rattle.cred_spelling.specs.declared.reason.Reason.{Reason}
 use Rattle.cred_spelling.specs.declared.reason.Reason.TheVariants.{Word, Byte}
 use Rattle.cred_spelling.specs.Lines.{is_printable}
 use Rattle.cred_spelling.specs.Names.{form_of}
-use Rattle.cred_spelling.specs.Words.{◌>>=◌, line_words, is_comment}
+use Rattle.cred_spelling.specs.Words.{line_words, is_comment}
 use Rattle.cred_forms.specs.declared.forms.Parsed.{Parsed}
 use Rattle.cred_forms.specs.declared.forms.Parsed.TheVariants.{Empty}
 use Rattle.cred_forms.specs.Forms.{parse_form}
@@ -14,6 +14,7 @@ use Rattle.cred_grammar.specs.Reading.{Reading, admits}
 use Rattle.cred_grammar.specs.Sound.{IsParsed}
 use Rattle.cred_grammar.proofs.Own.{form_sound}
 use Rattle.cred_reader.proofs.Spelled as spelled
+use Rattle.cred_ids.specs.Tests.{◌>>=◌}
 
 sound_form : (reading : Reading) (form : Form) (words : List (List ℕ)) (r : Result Parsed Reason) → parse_form reading.files form words ≡ r
     → spelled.Holds (IsParsed reading) (r >>= λ line. admits reading line >>= λ fits. Ok line)

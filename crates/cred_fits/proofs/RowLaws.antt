@@ -5,6 +5,7 @@ use Rattle.std.proofs.lemmas.Bool.Decides.{nat_tests}
 use Rattle.std.specs.Option.{option_map_or, option_and_then}
 use Rattle.cred_ids.specs.declared.arg.Arg.{Arg}
 use Rattle.cred_ids.specs.Limits.{TASKS, OPEN_FILES, HOLDS, PREPARED, DEPTH}
+use Rattle.cred_ids.specs.Tests.{◌>>=◌}
 use Rattle.cred_caps.specs.Numbers.{LAST, CHOWN, SETFCAP}
 use Rattle.cred_caps.specs.Caps.{Caps, has}
 use Rattle.cred_record.specs.Credential.{Credential, capable, first_credential}
@@ -38,7 +39,7 @@ use Rattle.cred_model.specs.Change.{Made, by_rule, made_by_rule, made_by_execve,
 use Rattle.cred_model.specs.Casts.{others_of, with_cast, waits_no_more}
 use Rattle.cred_model.specs.Dumpable.{differs, renewed, set_flag, flags_begun, flags_committed}
 use Rattle.cred_model.specs.Ends.{ended, is_thread_of}
-use Rattle.cred_model.specs.Moves.{◌>>=◌, in_slot, table_full, first_task, created, replaced}
+use Rattle.cred_model.specs.Moves.{in_slot, table_full, first_task, created, replaced}
 use Rattle.cred_model.specs.Moves.{preparing, altered, committed, given_up}
 use Rattle.cred_model.specs.Named.{query_files, change_files}
 use Rattle.cred_model.specs.Script.{Script, chain_of, root_of}
@@ -195,26 +196,26 @@ of_executed : (file : Option File) (chain : List ℕ) (c : Credential) → IsOfR
 of_executed None chain c = refl
 of_executed (Some file) chain c = by_exec (exec c file chain)
 
-of_change : (file : Option File) (chain : List ℕ) (c : Credential) (to : Change) → IsOfRow (rows.may_change to) (by_change file chain c to)
+of_change : (file : Option File) (chain : List ℕ) (c : Credential) (to : Change) → IsOfRow (rows.may_answer_change to) (by_change file chain c to)
 of_change file chain c (change.SetFs kind id) = refl
 of_change file chain c (change.Adjust call) = by_adjust call (adjust c call) (of_adjust c call)
 of_change file chain c (change.Exec place) = of_executed file chain c
 of_change file chain c change.Access = refl
 
-none_prepared : (to : Change) (label : ℕ) → rows.may_change to (answer.NoPrepared label) ≡ true
+none_prepared : (to : Change) (label : ℕ) → rows.may_answer_change to (answer.NoPrepared label) ≡ true
 none_prepared (change.SetFs kind id) label = refl
 none_prepared (change.Adjust call) label = refl
 none_prepared (change.Exec place) label = refl
 none_prepared change.Access label = refl
 
-of_altered : (s : State) (label : ℕ) (to : Change) (r : Result Made Answer) → IsOfRow (rows.may_change to) r
-    → Tells (rows.may_change to) s (r >>= λ made. Ok (made.answer, altered s label (record { change = to; cred = made.cred; gains = made.gains })))
+of_altered : (s : State) (label : ℕ) (to : Change) (r : Result Made Answer) → IsOfRow (rows.may_answer_change to) r
+    → Tells (rows.may_answer_change to) s (r >>= λ made. Ok (made.answer, altered s label (record { change = to; cred = made.cred; gains = made.gains })))
 of_altered s label to (Ok made) h = h
 of_altered s label to (Err refused) h = h
 
-of_alter : (script : Script) (s : State) (label : ℕ) (to : Change) → Tells (rows.may_change to) s (by_alter script s label to)
+of_alter : (script : Script) (s : State) (label : ℕ) (to : Change) → Tells (rows.may_answer_change to) s (by_alter script s label to)
 of_alter script s label to =
-    let Q = Tells (rows.may_change to) s in
+    let Q = Tells (rows.may_answer_change to) s in
     some_case Q (prepared_of s label) _ _ (none_prepared to label) (λ p is.
     some_case Q (numbered s.creds p.base) _ _ (none_prepared to label) (λ base is.
     of_altered s label to _ (of_change (info_of s.infos (change_files to)) (chain_of script base.cred.ns) base.cred to)))

@@ -16,7 +16,7 @@ use Rattle.cred_spelling.specs.declared.reason.Reason.TheVariants.{Word, Byte}
 use Rattle.cred_spelling.specs.Lines.{lines_of, is_printable}
 use Rattle.cred_spelling.specs.Names.{form_of}
 use Rattle.cred_spelling.specs.Spellings.{is_name}
-use Rattle.cred_spelling.specs.Words.{◌>>=◌, line_words, is_comment}
+use Rattle.cred_spelling.specs.Words.{line_words, is_comment}
 use Rattle.cred_forms.specs.declared.forms.Parsed.{Parsed}
 use Rattle.cred_forms.specs.declared.forms.Parsed.TheVariants.{Empty, File, Starts, Lane, Holds}
 use Rattle.cred_forms.specs.declared.forms.Parsed.TheVariants as parsed
@@ -32,6 +32,7 @@ use Rattle.cred_reader.proofs.Spelled.{then_holds, ok_or_holds}
 use Rattle.cred_fits.specs.Content.{FitsContent, FitsFile}
 use Rattle.cred_fits.proofs.FormFits.{FitsForm, FitsParsed, form_fits, parse_fits}
 use Rattle.cred_fits.proofs.FilesFit.{AreNamed, none_named, named_more}
+use Rattle.cred_ids.specs.Tests.{◌>>=◌}
 
 -- ---- what a line is parsed as
 

@@ -7,6 +7,7 @@ use Rattle.std.proofs.lemmas.List.Elements.{All-push, All-contains}
 use Rattle.std.proofs.lemmas.List.Sums.{count_by-le-length}
 use Rattle.cred_ids.specs.Ordered.{in_order}
 use Rattle.cred_ids.specs.Limits.{TASKS, HOLDS, PREPARED, DEPTH, SLOTS}
+use Rattle.cred_ids.specs.Tests.{◌>>=◌}
 use Rattle.cred_record.specs.Credential.{Credential, first_credential}
 use Rattle.cred_record.specs.File.{File}
 use Rattle.cred_record.specs.declared.gains.Gains.{Gains}
@@ -29,7 +30,7 @@ use Rattle.cred_model.specs.Casts.{waits_no_more, joined, with_child, without_wa
 use Rattle.cred_model.specs.Change.{Made, by_rule}
 use Rattle.cred_model.specs.Dumpable.{flags_begun, flags_committed, flag_of_value}
 use Rattle.cred_model.specs.Ends.{ended, survivors}
-use Rattle.cred_model.specs.Moves.{◌>>=◌, table_full, first_task, created, preparing, altered}
+use Rattle.cred_model.specs.Moves.{table_full, first_task, created, preparing, altered}
 use Rattle.cred_model.specs.Moves.{committed, given_up, with_current, updated, with_overrides}
 use Rattle.cred_model.specs.Moves.{overriding, with_change, relabelled}
 use Rattle.cred_model.specs.Named.{query_files, change_files}

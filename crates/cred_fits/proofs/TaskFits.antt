@@ -6,6 +6,7 @@ use Rattle.std.proofs.lemmas.List.{length-drop, length-map}
 use Rattle.std.proofs.lemmas.List.Elements.{All-nil, All-cons, All-push, All-map, All-append}
 use Rattle.std.proofs.lemmas.List.Sums.{count_by-le-length, length-filter}
 use Rattle.cred_ids.specs.Limits.{TASKS, OPEN_FILES, DEPTH}
+use Rattle.cred_ids.specs.Tests.{◌>>=◌}
 use Rattle.cred_record.specs.Credential.{Credential}
 use Rattle.cred_record.specs.declared.id_call.IdCall.{IdCall}
 use Rattle.cred_record.specs.declared.refusal.Denial.{Denial}
@@ -23,7 +24,7 @@ use Rattle.cred_model.specs.Casts.{others_of, with_cast, waits_no_more, is_open}
 use Rattle.cred_model.specs.Change.{by_rule}
 use Rattle.cred_model.specs.Dumpable.{differs, renewed}
 use Rattle.cred_model.specs.Ends.{is_thread_of, is_beside, is_task}
-use Rattle.cred_model.specs.Moves.{◌>>=◌, table_full, first_task, replaced}
+use Rattle.cred_model.specs.Moves.{table_full, first_task, replaced}
 use Rattle.cred_model.specs.Script.{Script, root_of}
 use Rattle.cred_model.specs.State.{State, Task, Numbered, Prepared, Changed, Broadcast, numbered, task_of, cast_of, cast_in, begun_by, open_of, hold_of, held_by, info_of}
 use Rattle.cred_model.specs.Step.{step, is_access, by_abort, for_access, override_held, override_prepared, by_override, by_revert, by_begin, aborted, follow, by_act, by_open, by_close, by_spawn, by_fork, by_exit, by_raw}

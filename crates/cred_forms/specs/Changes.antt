@@ -8,9 +8,10 @@ use Rattle.cred_spelling.specs.declared.names.ChangeName.{ChangeName}
 use Rattle.cred_spelling.specs.declared.names.ChangeName.TheVariants as name
 use Rattle.cred_spelling.specs.declared.reason.Reason.{Reason}
 use Rattle.cred_spelling.specs.declared.reason.Reason.TheVariants.{Count}
-use Rattle.cred_spelling.specs.Words.{◌>>=◌, bare, one_of, three_of}
+use Rattle.cred_spelling.specs.Words.{bare, one_of, three_of}
 use Rattle.cred_spelling.specs.Spellings.{number_of, arg_of, cap_of, set_of}
 use Rattle.cred_forms.specs.Files.{file_at}
+use Rattle.cred_ids.specs.Tests.{◌>>=◌}
 
 -- `exec NAME`
 unfoldable pub exec_of : List NamedFile → List (List ℕ) → Result Change Reason

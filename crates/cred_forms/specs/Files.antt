@@ -6,10 +6,11 @@ use Rattle.std.specs.Option.{option_map, option_map_or}
 use Rattle.std.specs.Str.{bytes_eq}
 use Rattle.cred_record.specs.File.{File}
 use Rattle.cred_ids.specs.Limits.{FILES}
+use Rattle.cred_ids.specs.Tests.{◌>>=◌}
 use Rattle.cred_model.specs.Script.{NamedFile}
 use Rattle.cred_spelling.specs.declared.reason.Reason.{Reason}
 use Rattle.cred_spelling.specs.declared.reason.Reason.TheVariants.{Word, Count}
-use Rattle.cred_spelling.specs.Words.{◌>>=◌, name_of, word_of, three_of}
+use Rattle.cred_spelling.specs.Words.{name_of, word_of, three_of}
 use Rattle.cred_spelling.specs.Spellings.{id_of, bytes_of, kind_of, mode_of}
 use Rattle.cred_script.specs.Files.{file_place}
 

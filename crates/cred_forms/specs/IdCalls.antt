@@ -5,8 +5,9 @@ use Rattle.cred_record.specs.declared.id_call.IdCall.TheVariants as call
 use Rattle.cred_spelling.specs.declared.names.IdName.{IdName}
 use Rattle.cred_spelling.specs.declared.names.IdName.TheVariants as name
 use Rattle.cred_spelling.specs.declared.reason.Reason.{Reason}
-use Rattle.cred_spelling.specs.Words.{◌>>=◌, word_of, one_of, two_of, three_of}
+use Rattle.cred_spelling.specs.Words.{word_of, one_of, two_of, three_of}
 use Rattle.cred_spelling.specs.Spellings.{arg_of, id_of}
+use Rattle.cred_ids.specs.Tests.{◌>>=◌}
 
 -- any number of ids
 abbrev pub ids : List (List ℕ) → Result (List ℕ) Reason

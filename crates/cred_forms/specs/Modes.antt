@@ -6,8 +6,8 @@ use Rattle.cred_event.specs.declared.event.Mode.{Mode}
 use Rattle.cred_event.specs.declared.event.Mode.TheVariants.{Fs, Real}
 use Rattle.cred_spelling.specs.Table.{named}
 
-unfoldable pub modes : List (List ℕ × Mode)
-modes = (codes "fs", Fs) ∷ (codes "real", Real) ∷ []
+unfoldable pub look_modes : List (List ℕ × Mode)
+look_modes = (codes "fs", Fs) ∷ (codes "real", Real) ∷ []
 
 abbrev pub look_mode : List ℕ → Option Mode
-look_mode word = named modes word
+look_mode word = named look_modes word

@@ -10,8 +10,9 @@ use Rattle.cred_spelling.specs.declared.reason.Reason.{Reason}
 use Rattle.cred_spelling.specs.declared.reason.Reason.TheVariants.{Word, Count}
 use Rattle.cred_spelling.specs.Names as names
 use Rattle.cred_spelling.specs.Spellings.{cap_of, want_of}
-use Rattle.cred_spelling.specs.Words.{◌>>=◌, word_of, bare, one_of}
+use Rattle.cred_spelling.specs.Words.{word_of, bare, one_of}
 use Rattle.cred_forms.specs.Files.{file_at}
+use Rattle.cred_ids.specs.Tests.{◌>>=◌}
 
 -- `NAME WANT`: a file, by its place, and what is wanted of it
 unfoldable pub file_and_want : List NamedFile → List (List ℕ) → Result (ℕ × Want) Reason

@@ -14,7 +14,7 @@ impl Spelling for AccessMode {
 
     ghost spelled = { spec.look_mode };
 
-    #[tactic(auto, unfolding(crate::specs::Modes::modes))]
+    #[tactic(auto, unfolding(crate::specs::Modes::look_modes))]
     fn of(word: &[u8]) -> Option<Mode> {
         named(&MODES, word)
     }

@@ -6,7 +6,7 @@ use Rattle.std.proofs.lemmas.List.{flat_map_more}
 use Rattle.cred_model.specs.Script.{Script}
 use Rattle.cred_spelling.specs.declared.reason.Reason.{Reason}
 use Rattle.cred_spelling.specs.Lines.{lines_of}
-use Rattle.cred_spelling.specs.Words.{◌>>=◌, two_of, three_of, five_of}
+use Rattle.cred_spelling.specs.Words.{two_of, three_of, five_of}
 use Rattle.cred_spelling.specs.Names.{forms, id_names, change_names, query_names}
 use Rattle.cred_forms.specs.IdCalls.{id_call_of}
 use Rattle.cred_forms.specs.Changes.{change_of}
@@ -16,6 +16,7 @@ use Rattle.cred_forms.specs.Forms.{parse_form}
 use Rattle.cred_grammar.specs.Reading.{Reading, nothing, script}
 use Rattle.cred_grammar.specs.Grammar.{parse_full, add_line, add_lines, script_of}
 use Rattle.cred_generate.specs.Generated.{FIRST, call_by, call, generated, text_of}
+use Rattle.cred_ids.specs.Tests.{◌>>=◌}
 
 -- what holds of each of the five lines holds of each call
 each : (P : List ℕ → Type 0) → P (codes "t1 setresuid 0 0 0") → P (codes "t1 keepcaps 1") → P (codes "t1 capable 21")

@@ -3,7 +3,7 @@ use Rattle.std.proofs.Common.{◌≡◌, ℕ, suc, ◌+◌, ◌-◌, ◌<◌, Li
 use Rattle.std.specs.Result.{is_ok}
 use Rattle.cred_model.specs.Script.{Script}
 use Rattle.cred_spelling.specs.declared.reason.Reason.{Reason}
-use Rattle.cred_spelling.specs.Words.{◌>>=◌}
+use Rattle.cred_ids.specs.Tests.{◌>>=◌}
 use Rattle.cred_grammar.specs.declared.refusal.ScriptRefusal.{ScriptRefusal}
 use Rattle.cred_grammar.specs.declared.refusal.ScriptRefusal.TheVariants.{Bad, Memory}
 use Rattle.cred_grammar.specs.Grammar.{at_line, add_line, add_lines}

@@ -8,6 +8,7 @@ use Rattle.std.proofs.lemmas.Bool.Decides.{nat_tests}
 use Rattle.std.proofs.lemmas.List.Elements.{All-nil, All-cons}
 use Rattle.std.proofs.lemmas.List.Sums.{AllPass-from_list_all}
 use Rattle.cred_ids.specs.Limits.{LAST_LANE, FILES, LAST_NUMBER}
+use Rattle.cred_ids.specs.Tests.{◌>>=◌}
 use Rattle.cred_event.specs.declared.event.Event.{Event}
 use Rattle.cred_event.specs.declared.event.Side.{Side}
 use Rattle.cred_event.specs.declared.content.Content.{Content}
@@ -15,7 +16,7 @@ use Rattle.cred_event.specs.declared.content.Content.TheVariants.{One}
 use Rattle.cred_model.specs.Script.{NamedFile, Namespace, chain_in}
 use Rattle.cred_record.specs.File.{IsMode}
 use Rattle.cred_model.specs.Named.{files, namespaces, modes, event_modes, call_modes, AreModes, IsContentOf}
-use Rattle.cred_model.specs.Changing.{line_changes}
+use Rattle.cred_model.specs.FileChanges.{line_changes}
 use Rattle.cred_spelling.specs.declared.names.Form.{Form}
 use Rattle.cred_spelling.specs.declared.names.Form.TheVariants as form
 use Rattle.cred_spelling.specs.declared.names.EventName.{EventName}
@@ -34,7 +35,7 @@ use Rattle.cred_spelling.specs.Spellings.{arg_of, bytes_of, mode_of}
 use Rattle.cred_spelling.specs.Spellings.{letter, number_of, within, id_of, cap_of, spelled_label}
 use Rattle.cred_spelling.specs.Spellings.{spelled_task, spelled_process, descriptor_of, line_number_of}
 use Rattle.cred_spelling.specs.Spellings.{lane_number_of, namespace_of, new_namespace_of, parent_of}
-use Rattle.cred_spelling.specs.Words.{◌>>=◌, word_of, no_words, one_of, two_of, three_of, five_of}
+use Rattle.cred_spelling.specs.Words.{word_of, no_words, one_of, two_of, three_of, five_of}
 use Rattle.cred_forms.specs.declared.forms.Parsed.{Parsed}
 use Rattle.cred_forms.specs.declared.forms.Parsed.TheVariants.{Empty, File, Starts, Lane, Holds}
 use Rattle.cred_forms.specs.declared.forms.Parsed.TheVariants as parsed

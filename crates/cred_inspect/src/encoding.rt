@@ -1,6 +1,6 @@
 //! The attribute that a text of file capabilities says, as its bytes.
 ghost use Rattle.std.specs.Prelude.{◌≡◌, IfOk, string_bytes};
-ghost use Rattle.cred_inspect.specs.Encoding.{AreBytesOf, IsLineOf, LeavesText, SaysText};
+ghost use Rattle.cred_inspect.specs.Encoding.{IsLineOf, LeavesText, SaysText};
 ghost use Rattle.cred_inspect.specs.Encoding.{text_refusal};
 ghost use Rattle.cred_said.specs.Leaves.{IsWriting};
 

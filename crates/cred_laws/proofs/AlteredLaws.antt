@@ -21,7 +21,7 @@ use Rattle.cred_event.specs.declared.event.Event.{Event}
 use Rattle.cred_event.specs.declared.event.Event.TheVariants.{Alter}
 use Rattle.cred_model.specs.Answers.{is_ok}
 use Rattle.cred_model.specs.Change.{Made, by_change, made_by_rule, made_by_exec}
-use Rattle.cred_model.specs.Moves.{◌>>=◌, relabelled, altered}
+use Rattle.cred_model.specs.Moves.{relabelled, altered}
 use Rattle.cred_model.specs.Named.{change_files}
 use Rattle.cred_model.specs.Script.{Script, chain_of}
 use Rattle.cred_model.specs.State.{State, SealedCred, Prepared, Changed, Numbered, numbered, prepared_of, info_of}
@@ -39,6 +39,7 @@ use Rattle.cred_laws.proofs.Cases.{some_case}
 use Rattle.cred_laws.proofs.MadeLaws.{bases_sealed, same_numbered, the_one}
 use Rattle.cred_laws.proofs.States.{answered_at, past_end, step_at}
 use Rattle.cred_laws.proofs.Unexecuted.{answer_of, answers_settled}
+use Rattle.cred_ids.specs.Tests.{◌>>=◌}
 
 -- ---- which answers of a change are refusals
 

@@ -35,7 +35,7 @@ use Rattle.cred_laws.specs.Execve.{IsExecve}
 use Rattle.cred_laws.specs.Files.{HasStripped, resets}
 use Rattle.cred_laws.specs.Made.{AreMadeFrom}
 use Rattle.cred_laws.specs.Raw.{IsRaw}
-use Rattle.cred_model.specs.Changing.{changed_file}
+use Rattle.cred_model.specs.FileChanges.{changed_file}
 use Rattle.cred_laws.specs.Trace.{IsOwn, AsksWithoutCap, HasThreads, IsAskedFor, IsExecuted}
 use Rattle.cred_laws.specs.Journals.{state_at, IsAlwaysSound, IsAlwaysMade, IsAlwaysValid, LooksIntoOwn, LeavesClear, StaysUndumpable, WritesUnusedSlots, KeepsSealed, KeepsHeld, KeepsOpeners, KeepsPrepared, OverridesLeave, ExecvesByTheRule, GainsAsAnswered, CreatesTasks, CompletesForAll, JournalsAreLawful, IsFileOf, FilesStay, ChownsStrip, RawsLeave, RawsByTheRule}
 use Rattle.cred_laws.specs.Broadcast.{HasNamed, AllHave, Completes}

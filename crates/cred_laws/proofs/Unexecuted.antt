@@ -3,6 +3,7 @@ use Rattle.std.proofs.Common.{◌≡◌, ◌==◌, ◌-◌, ℕ, List, [], ◌�
 use Rattle.std.specs.List.{find}
 use Rattle.std.specs.Option.{option_map_or}
 use Rattle.cred_ids.specs.Limits.{TASKS, OPEN_FILES, HOLDS, PREPARED, DEPTH}
+use Rattle.cred_ids.specs.Tests.{◌>>=◌}
 use Rattle.cred_record.specs.Credential.{Credential, first_credential}
 use Rattle.cred_record.specs.File.{File}
 use Rattle.cred_record.specs.declared.refusal.Denial.{Denial}
@@ -33,7 +34,7 @@ use Rattle.cred_model.specs.Ptrace.{may_trace}
 use Rattle.cred_model.specs.Dumpable.{is_dumpable, differs, renewed, flags_begun, flag_of_value}
 use Rattle.cred_model.specs.Answers.{refusal, flag, checked, reply, is_ok}
 use Rattle.cred_model.specs.Change.{Made, made_by_rule, made_by_exec, by_rule, by_change}
-use Rattle.cred_model.specs.Moves.{◌>>=◌, none_or, fewer_or, unless_refused, not_overridden}
+use Rattle.cred_model.specs.Moves.{none_or, fewer_or, unless_refused, not_overridden}
 use Rattle.cred_model.specs.Moves.{in_slot}
 use Rattle.cred_model.specs.Moves.{table_full, first_task, created, preparing, replaced}
 use Rattle.cred_model.specs.Step.{take_hold, for_access, aborted, follow, by_file, done, outcome}

@@ -4,6 +4,7 @@ use Rattle.std.specs.List.{filter}
 use Rattle.std.proofs.lemmas.List.{length-map}
 use Rattle.std.proofs.lemmas.List.Sums.{count_by-le-length, length-filter}
 use Rattle.cred_ids.specs.Limits.{TASKS}
+use Rattle.cred_ids.specs.Tests.{◌>>=◌}
 use Rattle.cred_record.specs.Credential.{Credential}
 use Rattle.cred_rules.specs.SetId.{set_id}
 use Rattle.cred_event.specs.declared.event.Change.{Change}
@@ -21,7 +22,7 @@ use Rattle.cred_model.specs.Casts.{others_of, waits_no_more, dropped}
 use Rattle.cred_model.specs.Change.{by_rule}
 use Rattle.cred_model.specs.Course.{some_wait}
 use Rattle.cred_model.specs.Dumpable.{differs, renewed}
-use Rattle.cred_model.specs.Moves.{◌>>=◌, replaced}
+use Rattle.cred_model.specs.Moves.{replaced}
 use Rattle.cred_model.specs.Step.{aborted, follow, outcome, step}
 use Rattle.cred_model.proofs.Rising.{length-in_order}
 use Rattle.cred_sound.specs.Sound.{IsSound}

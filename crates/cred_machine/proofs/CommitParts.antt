@@ -9,14 +9,14 @@ use Rattle.cred_event.specs.declared.answer.Answer.{Answer}
 use Rattle.cred_event.specs.declared.answer.Answer.TheVariants.{Stale}
 use Rattle.cred_model.specs.State.{State, Broadcast, Changed, Prepared, ProcessFlag, SealedCred, Task, begun_by, numbered, task_of}
 use Rattle.cred_model.specs.Dumpable.{differs, flags_by, flags_committed}
-use Rattle.cred_model.specs.Casts.{not_busy}
+use Rattle.cred_model.specs.Casts.{not_busy, casts_left}
 use Rattle.cred_model.specs.Ends.{left_by, survivors}
 use Rattle.cred_model.specs.Moves.{given_up, not_overridden, with_current}
 use Rattle.cred_model.specs.Step.{by_commit, committed_by, for_task, outcome, try_commit}
 use Rattle.cred_model.proofs.Numbers.{owner_number}
-use Rattle.cred_machine.specs.Labels.{CanCommit, Commits, IsChanged, IsOnCurrent, casts_left}
+use Rattle.cred_machine.specs.Labels.{CanCommit, Commits, IsChanged, IsOnCurrent}
 use Rattle.cred_plain.specs.Tasks.{ending_of, ends_by}
-use Rattle.cred_plain.specs.declared.task.Ending.{Ending}
+use Rattle.cred_plain.specs.declared.one_task.Ending.{Ending}
 use Rattle.cred_sound.proofs.Events.{changed_for_task}
 use Rattle.cred_machine.proofs.Commits.{settled, stale}
 use Rattle.cred_machine.proofs.Events.{commit_tests}

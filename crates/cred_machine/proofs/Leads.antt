@@ -10,12 +10,12 @@ use Rattle.cred_model.specs.Slots.{free, least_free, swept}
 use Rattle.cred_model.specs.Casts.{dropped, joined, not_busy, waits_no_more}
 use Rattle.cred_model.specs.Dumpable.{flags_begun, is_dumpable, with_process_flag, without_flag}
 use Rattle.cred_model.specs.Ends.{is_task, is_thread_of, left_by, survivors}
-use Rattle.cred_model.specs.Moves.{created, preparing, first_task, not_overridden, table_full}
+use Rattle.cred_model.specs.Moves.{created, preparing, first_task, not_overridden, table_full, at_abort}
 use Rattle.cred_model.specs.Step.{aborted, by_exit, by_fork, by_init, by_prepare, by_spawn, outcome}
 use Rattle.cred_model.proofs.Numbers.{owner_number}
 use Rattle.cred_model.proofs.Places.{none_by_test}
 use Rattle.cred_plain.specs.Tasks.{is_other_thread}
-use Rattle.cred_machine.specs.Room.{at_abort, swept_if}
+use Rattle.cred_machine.specs.Room.{swept_if}
 use Rattle.cred_machine.proofs.Events.{CanCreate, CanPrepare, exited, forked, init_tests, prepare_tests, spawned}
 use Rattle.cred_machine.proofs.Refusals.{neither, some_of}
 use Rattle.cred_machine.proofs.Rooms.{in_free, in_none, preparing_if}

@@ -16,7 +16,7 @@ use Rattle.cred_model.specs.Dumpable.{differs, renewed}
 use Rattle.cred_model.specs.State.{State, SealedCred, Prepared, ProcessFlag, Task, Broadcast, Numbered, cast_of, numbered, task_of}
 use Rattle.cred_model.specs.Change.{by_rule}
 use Rattle.cred_model.specs.Like.{IsLike}
-use Rattle.cred_model.specs.Moves.{◌>>=◌, replaced, updated, with_current}
+use Rattle.cred_model.specs.Moves.{replaced, updated, with_current}
 use Rattle.cred_model.specs.Slots.{free, is_kept, is_live, least_free, refs, stands_in}
 use Rattle.cred_model.specs.Step.{aborted, by_act, follow, outcome}
 use Rattle.cred_model.proofs.Rising.{AllPairs-head, AllPairs-tail}
@@ -27,6 +27,7 @@ use Rattle.cred_machine.specs.Room.{IsCurrentOf, swept_if}
 use Rattle.cred_machine.proofs.Free.{free_now}
 use Rattle.cred_plain.proofs.Places.{all_left}
 use Rattle.cred_machine.proofs.Rooms.{in_free}
+use Rattle.cred_ids.specs.Tests.{◌>>=◌}
 
 -- ---- one credential more
 

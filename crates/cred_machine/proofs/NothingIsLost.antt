@@ -19,7 +19,7 @@ use Rattle.cred_event.specs.declared.event.Mode.{Mode}
 use Rattle.cred_model.specs.Answers.{checked}
 use Rattle.cred_model.specs.Casts.{dropped, joined, others_of, waits_no_more, with_cast}
 use Rattle.cred_model.specs.Change.{by_change, by_rule}
-use Rattle.cred_model.specs.Changing.{changed_by}
+use Rattle.cred_model.specs.FileChanges.{changed_by}
 use Rattle.cred_model.specs.Dumpable.{differs, flag_of_value, flags_begun, flags_left, is_dumpable, renewed, set_flag, with_process_flag, without_flag}
 use Rattle.cred_model.specs.Ends.{ended, is_task, is_thread_of}
 use Rattle.cred_model.specs.Moves.{created, first_task, preparing, replaced, table_full}

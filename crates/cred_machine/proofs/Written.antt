@@ -13,7 +13,7 @@ use Rattle.cred_event.specs.declared.event.Event.{Event}
 use Rattle.cred_event.specs.declared.event.Event.TheVariants.{Chown, Chmod, SetAttr}
 use Rattle.cred_event.specs.declared.answer.Answer.TheVariants.{Done, Told, Eperm, Einval, NoHold}
 use Rattle.cred_event.specs.declared.answer.Told.TheVariants as told
-use Rattle.cred_model.specs.Changing.{event_changes}
+use Rattle.cred_model.specs.FileChanges.{event_changes}
 use Rattle.cred_model.specs.State.{State, Numbered, held_by}
 use Rattle.cred_model.specs.Step.{by_file, by_stat, outcome}
 use Rattle.cred_machine.specs.Written.{IsMadeBy}

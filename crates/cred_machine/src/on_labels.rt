@@ -5,8 +5,10 @@ ghost use Rattle.cred_model.specs.Step.{by_abort, by_alter, by_ask, by_commit, b
 ghost use Rattle.cred_model.specs.Step.{by_release, by_signal, by_take, take_hold};
 ghost use Rattle.cred_model.specs.Step as model;
 ghost use Rattle.cred_model.specs.Moves.{given_up};
+ghost use Rattle.cred_model.specs.Casts.{casts_left};
+ghost use Rattle.cred_model.specs.State.{numbered_in};
 ghost use Rattle.cred_sound.specs.Sound.{IsSound};
-ghost use Rattle.cred_machine.specs.Labels.{numbered_in, casts_left, CanCommit, Commits};
+ghost use Rattle.cred_machine.specs.Labels.{CanCommit, Commits};
 ghost use Rattle.cred_machine.specs.Labels.{IsOnCurrent};
 ghost use Rattle.cred_plain.specs.Tasks.{ending_of};
 

@@ -5,6 +5,7 @@ use Rattle.std.specs.Option.{option_and_then, option_map_or}
 use Rattle.std.proofs.lemmas.List.Elements.{All-append, All-cons, All-drop, All-push, All-nil}
 use Rattle.cred_ids.specs.Limits.{TASKS, OPEN_FILES, HOLDS, PREPARED, DEPTH}
 use Rattle.cred_ids.specs.declared.arg.Arg.{Arg}
+use Rattle.cred_ids.specs.Tests.{◌>>=◌}
 use Rattle.cred_record.specs.Credential.{Credential, first_credential}
 use Rattle.cred_record.specs.File.{File}
 use Rattle.cred_record.specs.declared.refusal.Denial.{Denial}
@@ -35,7 +36,7 @@ use Rattle.cred_model.specs.Answers.{checked}
 use Rattle.cred_model.specs.Change.{by_change, by_rule}
 use Rattle.cred_model.specs.Ends.{is_task, is_thread_of, ended}
 use Rattle.cred_model.specs.Casts.{not_busy, others_of, with_cast, waits_no_more, joined, dropped}
-use Rattle.cred_model.specs.Moves.{◌>>=◌, none_or, fewer_or, unless_refused, not_overridden}
+use Rattle.cred_model.specs.Moves.{none_or, fewer_or, unless_refused, not_overridden}
 use Rattle.cred_model.specs.Moves.{table_full}
 use Rattle.cred_model.specs.Moves.{first_task, with_overrides, holding, with_override, with_current}
 use Rattle.cred_model.specs.Moves.{given_up, committed, altered, preparing, created, replaced}

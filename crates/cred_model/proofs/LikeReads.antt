@@ -7,10 +7,11 @@ use Rattle.std.proofs.lemmas.List.{length-map}
 use mathlib.Core.Path.{fun_ext}
 use Rattle.cred_event.specs.declared.event.Side.{Side}
 use Rattle.cred_model.specs.State.{State, SealedCred, Numbered, number_on, numbered, current_of, credential_of, opener_of, held_by}
-use Rattle.cred_model.specs.Slots.{refs, stands_in, is_kept, slots, least_free}
+use Rattle.cred_model.specs.Slots.{refs, stands_in, is_kept, least_free}
 use Rattle.cred_model.specs.Like.{IsLike}
 use Rattle.cred_model.proofs.Lists.{find_each, then_same, then_each}
 use Rattle.cred_model.proofs.Referred.{EachRef, each_ref, each_side}
+use Rattle.cred_ids.specs.Limits.{slots}
 
 -- the state with these credentials in the place of its own
 abbrev pub with : State → List SealedCred → State

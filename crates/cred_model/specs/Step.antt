@@ -5,6 +5,7 @@ use Rattle.std.specs.Prelude.{Some, None, is_some, if◌then◌else◌, count_by
 use Rattle.std.specs.declared.option.Option.{Option}
 use Rattle.std.specs.Option.{option_and_then, option_map_or}
 use Rattle.cred_ids.specs.Limits.{TASKS, OPEN_FILES, HOLDS, PREPARED, DEPTH}
+use Rattle.cred_ids.specs.Tests.{◌>>=◌}
 use Rattle.cred_record.specs.Credential.{Credential, first_credential}
 use Rattle.cred_record.specs.File.{File}
 use Rattle.cred_record.specs.declared.gains.Gains.{Gains}
@@ -53,7 +54,7 @@ use Rattle.cred_model.specs.Dumpable.{renewed, flags_committed, flags_begun, fla
 use Rattle.cred_model.specs.Dumpable.{flag_of_value}
 use Rattle.cred_model.specs.Answers.{checked, reply}
 use Rattle.cred_model.specs.Change.{by_change, by_rule}
-use Rattle.cred_model.specs.Moves.{◌>>=◌, none_or, fewer_or}
+use Rattle.cred_model.specs.Moves.{none_or, fewer_or}
 use Rattle.cred_model.specs.Moves.{unless_refused, not_overridden, in_slot, table_full, first_task}
 use Rattle.cred_model.specs.Moves.{created}
 use Rattle.cred_model.specs.Moves.{replaced, with_overrides, holding, preparing, altered, given_up}

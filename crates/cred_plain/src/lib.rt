@@ -7,14 +7,14 @@ pub mod casts;
 mod creds;
 pub mod files;
 pub mod labels;
+mod one_task;
 mod references;
-mod task;
 mod tasks;
 
 pub use casts::Cast;
 pub use creds::{Creds, Numbered};
 pub use files::OpenFile;
 pub use labels::{Changed, Hold, Prepared};
+pub use one_task::{Ending, Task};
 pub use references::References;
-pub use task::{Ending, Task};
 pub use tasks::Tasks;

@@ -7,10 +7,11 @@ use Rattle.std.proofs.lemmas.List.Elements.{recursion_from_All}
 use Rattle.std.proofs.lemmas.Map.Steps.{set_value_same}
 use Rattle.cred_ids.specs.Limits.{DEPTH}
 use Rattle.cred_model.specs.State.{Task}
+use Rattle.cred_model.specs.Moves.{with_overrides}
 use Rattle.cred_procs.specs.declared.processes.Processes.{Processes}
 use Rattle.cred_procs.specs.declared.thread.Thread.{Thread}
 use Rattle.cred_procs.specs.Kept.{task_as, tasks_of, AreGrouped}
-use Rattle.cred_procs.specs.Tasks.{task_in, overrides_of, with_overrides}
+use Rattle.cred_procs.specs.Tasks.{task_in, overrides_of}
 use Rattle.cred_procs.proofs.Entries.{task_in-tasks_of, set_value-tasks_of, changed}
 use Rattle.cred_procs.proofs.Changes.{LeavesPlace, IsShallow, AreTasks-map, members-map}
 

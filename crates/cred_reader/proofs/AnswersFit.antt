@@ -2,6 +2,7 @@
 use Rattle.std.proofs.Common.{ℕ, ◌<◌, ◌^◌, ◌==◌, Bool, true, false, cond, Option, All, List, [], ◌∷◌, Result, Ok, ok_or, length, codes}
 use Rattle.std.specs.Str.{bytes_eq}
 use Rattle.cred_ids.specs.Id.{IsId}
+use Rattle.cred_ids.specs.Tests.{◌>>=◌}
 use Rattle.cred_caps.specs.Caps.{IsCaps}
 use Rattle.cred_record.specs.File.{IsMode}
 use Rattle.cred_event.specs.declared.answer.Answer.{Answer}
@@ -9,7 +10,7 @@ use Rattle.cred_event.specs.declared.answer.Answer.TheVariants as answer
 use Rattle.cred_spelling.specs.declared.reason.Reason.{Reason}
 use Rattle.cred_spelling.specs.declared.reason.Reason.TheVariants.{Word}
 use Rattle.cred_spelling.specs.Spellings as spelling
-use Rattle.cred_spelling.specs.Words.{◌>>=◌, word_of, one_of, two_of, three_of, five_of}
+use Rattle.cred_spelling.specs.Words.{word_of, one_of, two_of, three_of, five_of}
 use Rattle.cred_forms.specs.IdCalls.{ids}
 use Rattle.cred_reader.specs.declared.answers.Tells.{Tells}
 use Rattle.cred_reader.specs.declared.answers.Tells.TheVariants.{Nothing, Ids, Caps, Groups, Bits, Flag, File}

@@ -233,7 +233,7 @@ dumped_back script task fits =
 
 ptrace_fs_back : (script : Script) (from : ℕ) (hold : ℕ) (to : ℕ) (target : ℕ) → FitsEvent (event.Ptrace from hold to target Fs)
     → EventBack script (event.Ptrace from hold to target Fs)
-unfolding spec.read_event spec.event_names spec.event_named spec.ptrace_of modes.modes words.two_of
+unfolding spec.read_event spec.event_names spec.event_named spec.ptrace_of modes.look_modes words.two_of
 ptrace_fs_back script from hold to target fits = record {
   first = codes "ptrace";
   rest = codes "fs" ∷ (codes "t" ++ decimal from) ∷ (codes "h" ++ decimal hold) ∷ (codes "t" ++ decimal to) ∷ (codes "h" ++ decimal target) ∷ [];
@@ -244,7 +244,7 @@ ptrace_fs_back script from hold to target fits = record {
 
 ptrace_real_back : (script : Script) (from : ℕ) (hold : ℕ) (to : ℕ) (target : ℕ) → FitsEvent (event.Ptrace from hold to target Real)
     → EventBack script (event.Ptrace from hold to target Real)
-unfolding spec.read_event spec.event_names spec.event_named spec.ptrace_of modes.modes words.two_of
+unfolding spec.read_event spec.event_names spec.event_named spec.ptrace_of modes.look_modes words.two_of
 ptrace_real_back script from hold to target fits = record {
   first = codes "ptrace";
   rest = codes "real" ∷ (codes "t" ++ decimal from) ∷ (codes "h" ++ decimal hold) ∷ (codes "t" ++ decimal to) ∷ (codes "h" ++ decimal target) ∷ [];
@@ -315,7 +315,7 @@ stat_back script hold file fits own =
 
 raw_back : (script : Script) (task : ℕ) (call : IdCall) → FitsEvent (event.Raw task call)
     → EventBack script (event.Raw task call)
-unfolding spec.read_event spec.event_names spec.event_named spec.task_event spec.raw_of
+unfolding spec.read_event spec.event_names spec.event_named spec.task_event spec.read_raw
 raw_back script task call fits =
     let back = call_back script call fits.1 in
     record {

@@ -210,8 +210,8 @@ begin_fits (caller ∷ called ∷ words) =
     then_holds IsNumber FitsEvent (word_of kinds.task_word caller) _ (word_holds IsNumber kinds.task_word task_fits caller) (λ task t.
     then_holds FitsCall FitsEvent (spec.call_named called words) _ (named_call_fits called words) (λ call c. (t, c)))
 
-raw_fits : (words : List (List ℕ)) → Holds FitsEvent (spec.raw_of words)
-unfolding spec.raw_of
+raw_fits : (words : List (List ℕ)) → Holds FitsEvent (spec.read_raw words)
+unfolding spec.read_raw
 raw_fits [] = tt
 raw_fits (caller ∷ []) = tt
 raw_fits (caller ∷ called ∷ words) =

@@ -1,6 +1,7 @@
 -- What words are read as has numbers that fit.
 use Rattle.std.proofs.Common.{ℕ, Option, Some, None, List, [], ◌∷◌, Result, Ok, Err, ok_or}
-use Rattle.cred_spelling.specs.Words.{◌>>=◌, word_of, one_of, two_of, three_of, five_of}
+use Rattle.cred_spelling.specs.Words.{word_of, one_of, two_of, three_of, five_of}
+use Rattle.cred_ids.specs.Tests.{◌>>=◌}
 
 -- it holds of what was read, if anything was
 abbrev pub Holds : {A E : Type 0} → (A → Type 0) → Result A E → Type 0

@@ -128,9 +128,9 @@ fn read_begin(alloc: Global, words: &[&[u8]]) -> Result<Event, LineRefusal>
 }
 
 /// A task, and an id call of its own.
-#[tactic(auto, unfolding(crate::specs::Events::raw_of))]
+#[tactic(auto, unfolding(crate::specs::Events::read_raw))]
 fn raw_of(alloc: Global, words: &[&[u8]]) -> Result<Event, LineRefusal>
-    ensures { GivesLine (λ event. event) result (spec.raw_of (nows words.now)) }
+    ensures { GivesLine (λ event. event) result (spec.read_raw (nows words.now)) }
 {
     match words {
         [caller, called, words @ ..] => {

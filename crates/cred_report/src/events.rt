@@ -1,5 +1,5 @@
 //! Events.
-ghost use Rattle.std.specs.Prelude.{◌≡◌, ◌≤◌, ◌+◌, ◌++◌, OnOk, codes, decimal, length};
+ghost use Rattle.std.specs.Prelude.{◌≡◌, ◌≤◌, ◌+◌, ◌++◌, OnOk, codes, decimal};
 ghost use Rattle.cred_report.specs.Calls.{call_text};
 ghost use Rattle.cred_report.specs.Events.{take_text, trace_text, event_text};
 ghost use Rattle.cred_report.specs.Room.{EVENT, BEFORE_EVENT};

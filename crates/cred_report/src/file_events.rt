@@ -2,7 +2,7 @@
 ghost use Rattle.std.specs.Prelude.{◌≡◌, ◌≤◌, ◌<◌, ◌+◌, ◌++◌, OnOk, slice_index};
 ghost use Rattle.hex.specs.Hex.{encode_lower, lower_digits};
 ghost use Rattle.cred_report.specs.Events.{event_text};
-ghost use Rattle.cred_report.specs.Room.{EVENT, BEFORE_EVENT, BEFORE_FILE};
+ghost use Rattle.cred_report.specs.Room.{EVENT, BEFORE_EVENT};
 
 use crate::questions::prepend_file;
 use crate::told::prepend_mode;

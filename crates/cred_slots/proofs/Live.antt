@@ -6,11 +6,12 @@ use Rattle.std.proofs.lemmas.List.Folds.{list_any-append}
 use Rattle.std.proofs.lemmas.Bool.{cases_lt}
 use Rattle.std.proofs.lemmas.Bool.Decides.{nat_tests}
 use Rattle.cred_slots.specs.declared.row.Row.{Row}
-use Rattle.cred_slots.specs.Table.{Table, slots, is_sealed_in, is_live_in, least_free_in, swept_table, free_in}
+use Rattle.cred_slots.specs.Table.{Table, is_sealed_in, is_live_in, least_free_in, swept_table, free_in}
 use Rattle.cred_slots.specs.Flags.{in_either, first_unset}
 use Rattle.cred_slots.specs.Rows.{row_at, repeated, held_in, held_count, late_count, AreSoundRows}
 use Rattle.cred_slots.proofs.Counting.{weight, any-count, count-repeated, sum_only}
 use Rattle.cred_slots.proofs.Tables.{room-free, room-full}
+use Rattle.cred_ids.specs.Limits.{slots}
 
 -- Two tests that agree below the end find the same.
 pub find-same : (p q : ℕ → Bool) (a n : ℕ) → ((k : ℕ) → a ≤ k → k < a + n → p k ≡ q k) → find p (range_with_len a n) ≡ find q (range_with_len a n)

@@ -4,7 +4,7 @@ use Rattle.std.specs.List.{count_by}
 use Rattle.std.proofs.lemmas.List.{length-map, take-append-le, take_all}
 use Rattle.std.proofs.lemmas.List.FromFn.{length-map-range_with_len, get_or-map-range_with_len}
 use Rattle.cred_slots.specs.declared.row.Row.{Row}
-use Rattle.cred_slots.specs.Table.{slots}
+use Rattle.cred_ids.specs.Limits.{slots}
 use Rattle.cred_slots.specs.Rows.{row_at, repeated, held_in, late_in, held_count, late_count, without_late, unused, AreSoundRows}
 
 pub map-is : (f : Row → Row) (xs ys : List Row) → length ys ≡ length xs → ((k : ℕ) → k < length xs → row_at ys k ≡ f (row_at xs k)) → ys ≡ map f xs

@@ -6,7 +6,7 @@ use Rattle.std.proofs.lemmas.List.FromFn.{length-map-range_with_len, get_or-map-
 use Rattle.std.proofs.lemmas.Nat.Bits.{bit_at_or, bit_at-lt}
 use Rattle.std.proofs.lemmas.Bool.{cases_lt, cases_eq}
 use Rattle.std.proofs.Common.{length-set, get_or-set_same, get_or-set_other}
-use Rattle.cred_slots.specs.Table.{slots}
+use Rattle.cred_ids.specs.Limits.{slots}
 use Rattle.cred_slots.specs.Flags.{flag_at, flags_of, in_either, first_unset}
 
 pub length-flags_of : (words : List ℕ) → length (flags_of words) ≡ 256

@@ -25,7 +25,7 @@ use Rattle.cred_model.specs.Script.{Script, chain_of, root_of, reaches}
 use Rattle.cred_model.specs.State.{State, Task, OpenFile as Open, Hold, Prepared, Changed, Numbered, numbered, task_of, cast_in, begun_by, open_of, hold_of, prepared_of, held_by, opener_of, credential_of, info_of}
 use Rattle.cred_model.specs.Slots.{refs}
 use Rattle.cred_model.specs.Named.{change_files}
-use Rattle.cred_model.specs.Changing.{changed_file, changed_by}
+use Rattle.cred_model.specs.FileChanges.{changed_file, changed_by}
 use Rattle.cred_model.specs.Answers.{checked}
 use Rattle.cred_model.specs.Change.{by_change}
 use Rattle.cred_model.specs.Ends.{ended}

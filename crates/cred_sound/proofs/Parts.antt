@@ -18,7 +18,7 @@ use Rattle.cred_model.specs.Script.{Script, chain_of, root_of}
 use Rattle.cred_model.specs.State.{State, SealedCred, Task, Broadcast, OpenFile, Hold, Prepared, Changed, Numbered, numbered, task_of, cast_of, cast_in, begun_by, hold_of, prepared_of, current_of, info_of}
 use Rattle.cred_model.specs.Slots.{refs, kept}
 use Rattle.cred_model.specs.Named.{change_files}
-use Rattle.cred_model.specs.Changing.{changed_file, changed_by}
+use Rattle.cred_model.specs.FileChanges.{changed_file, changed_by}
 use Rattle.cred_model.specs.Change.{by_change}
 use Rattle.cred_model.specs.Ends.{is_task, is_thread_of, survivors}
 use Rattle.cred_model.specs.Dumpable.{is_dumpable, with_process_flag, set_flag, without_flag, differs, renewed, flags_committed, flags_begun, flags_left, flag_of_value}

@@ -19,7 +19,7 @@ use Rattle.cred_model.specs.Casts.{dropped, waits_in, waits_no_more}
 use Rattle.cred_model.specs.Dumpable.{differs, renewed, without_flag}
 use Rattle.cred_model.specs.Ends.{is_thread_of, survivors, left_by}
 use Rattle.cred_model.specs.Like.{IsOutcomeLike}
-use Rattle.cred_model.specs.Moves.{in_slot, with_current, replaced}
+use Rattle.cred_model.specs.Moves.{in_slot, with_current, replaced, at_abort}
 use Rattle.cred_model.specs.Step.{aborted, by_act, outcome}
 use Rattle.cred_model.proofs.Likes.{does_same}
 use Rattle.cred_model.proofs.Lists.{found, slice_get_at}
@@ -30,7 +30,7 @@ use Rattle.cred_sound.proofs.Threads.{thread_is, waits_at}
 use Rattle.cred_cast.proofs.Conditions.{least_waits}
 use Rattle.cred_slots.specs.Table.{Table, IsSameBag}
 use Rattle.cred_slots.specs.Table as table
-use Rattle.cred_tables.specs.Begin.{at_abort, table_at}
+use Rattle.cred_tables.specs.Begin.{table_at}
 use Rattle.cred_tables.specs.Kept.{Parts, state_of, IsKept, Seals}
 use Rattle.cred_state.proofs.Begins.{replaced_kept, replaced_made, counts_next}
 use Rattle.cred_state.proofs.Broadcasts.{kept_beside}

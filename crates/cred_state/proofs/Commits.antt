@@ -12,7 +12,7 @@ use Rattle.cred_event.specs.declared.answer.Answer.TheVariants.{Busy, NoTask, No
 use Rattle.cred_event.specs.declared.event.Change.{Change}
 use Rattle.cred_event.specs.declared.event.Change.TheVariants.{Exec}
 use Rattle.cred_model.specs.State.{State, Task, Prepared, Changed, Broadcast, ProcessFlag, task_of, begun_by, prepared_of}
-use Rattle.cred_model.specs.Casts.{not_busy}
+use Rattle.cred_model.specs.Casts.{not_busy, casts_left}
 use Rattle.cred_model.specs.Dumpable.{flags_committed}
 use Rattle.cred_model.specs.Slots.{in_use, kept}
 use Rattle.cred_model.specs.Ends.{survivors, ended}
@@ -24,7 +24,7 @@ use Rattle.cred_slots.specs.Table.{Table, IsSameBag, is_kept_in}
 use Rattle.cred_slots.proofs.Counting.{count-cons}
 use Rattle.cred_sound.proofs.Survivors.{find_goes_on}
 use Rattle.cred_tables.specs.Prepared.{changed_of}
-use Rattle.cred_tables.specs.Kept.{Parts, casts_left, creds_in, state_of, IsKept, SealsKept}
+use Rattle.cred_tables.specs.Kept.{Parts, creds_in, state_of, IsKept, SealsKept}
 use Rattle.cred_tables.proofs.Back.{set_same}
 use Rattle.cred_tables.proofs.Bags.{bag-at, counts_itself}
 use Rattle.cred_state.proofs.Broadcasts.{kept_beside, like_beside}

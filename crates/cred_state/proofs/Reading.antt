@@ -5,14 +5,14 @@ use Rattle.std.specs.Option.{IsSome, option_map, option_map_or, option_and_then}
 use Rattle.std.proofs.lemmas.Bool.Decides.{nat_tests}
 use Rattle.std.proofs.lemmas.Option.{get_or_from_slice_get, same_Some, slice_get_within}
 use Rattle.cred_record.specs.Credential.{Credential}
-use Rattle.cred_model.specs.State.{State, Numbered, SealedCred, numbered}
+use Rattle.cred_model.specs.State.{State, Numbered, SealedCred, numbered, no_credential}
 use Rattle.cred_model.specs.Slots.{in_use}
 use Rattle.cred_model.proofs.Lists.{slice_get-left}
 use Rattle.cred_model.proofs.Numbers.{numbered_is}
 use Rattle.cred_hold.specs.Tokens.{IsSealed}
 use Rattle.cred_slots.specs.Table.{Table, free_in, references_to, is_sealed_in}
 use Rattle.cred_slots.proofs.Counting.{count-append}
-use Rattle.cred_tables.specs.Kept.{Parts, stored_at, creds_in, cred_under, seen_in, no_credential, state_of, AreInPlace, IsInUse, IsKept, Seals}
+use Rattle.cred_tables.specs.Kept.{Parts, stored_at, creds_in, cred_under, seen_in, state_of, AreInPlace, IsInUse, IsKept, Seals}
 use Rattle.cred_tables.specs.declared.table.Numbered as table
 use Rattle.cred_tables.proofs.Sealing.{used_is_referred}
 

@@ -5,10 +5,10 @@ use Rattle.std.specs.Option.{IsSome, option_map_or}
 use Rattle.std.proofs.lemmas.Bool.{cases_eq, eq-eqb, eqb-true, false≢true}
 use Rattle.std.proofs.lemmas.List.Elements.{All-head, All-tail}
 use Rattle.std.proofs.lemmas.List.FromFn.{get_or-range_with_len, length-range_with_len}
-use Rattle.cred_ids.specs.Limits.{SLOTS}
+use Rattle.cred_ids.specs.Limits.{SLOTS, slots}
 use Rattle.cred_record.specs.Credential.{Credential}
 use Rattle.cred_model.proofs.Lists.{found}
-use Rattle.cred_slots.specs.Table.{Table, free_in, is_kept_in, is_live_in, references, references_to, slots, is_sealed_in, swept_table_if_full}
+use Rattle.cred_slots.specs.Table.{Table, free_in, is_kept_in, is_live_in, references, references_to, is_sealed_in, swept_table_if_full}
 use Rattle.cred_slots.proofs.Counting.{count-cons}
 use Rattle.cred_tables.specs.Kept.{AreFilled}
 use Rattle.cred_tables.proofs.Filled.{NoMore}

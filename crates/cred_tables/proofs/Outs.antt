@@ -8,7 +8,7 @@ use Rattle.std.proofs.lemmas.Option.{slice_get-get_or, slice_get-map, same_Some}
 use Rattle.cred_record.specs.Credential.{Credential}
 use Rattle.cred_event.specs.declared.event.Event.{Event}
 use Rattle.cred_event.specs.declared.event.Event.TheVariants.{Ask, Signal, Alter, OpenFile}
-use Rattle.cred_model.specs.State.{State, Hold, Prepared, Numbered, SealedCred, numbered, hold_of, prepared_of, held_by}
+use Rattle.cred_model.specs.State.{State, Hold, Prepared, Numbered, SealedCred, numbered, hold_of, prepared_of, held_by, no_credential}
 use Rattle.cred_model.specs.Slots.{in_use, refs, swept}
 use Rattle.cred_model.specs.Like.{IsLike}
 use Rattle.cred_model.proofs.Lists.{found, All-at, All-unmap, AllPairs-unmap, alone, map_same}
@@ -24,7 +24,7 @@ use Rattle.cred_slots.specs.Table.{Table, is_kept_in, references_to}
 use Rattle.cred_slots.specs.Table as table
 use Rattle.cred_slots.proofs.Tables.{held_is_referred}
 use Rattle.cred_slots.proofs.Counting.{count-append}
-use Rattle.cred_tables.specs.Kept.{Parts, state_of, creds_in, no_credential, IsKept, IsInUse}
+use Rattle.cred_tables.specs.Kept.{Parts, state_of, creds_in, IsKept, IsInUse}
 use Rattle.cred_tables.specs.Out.{AreOut, cleared, hold_token, kept_tokens, tokens_in, needs_tokens}
 use Rattle.cred_tables.proofs.Bags.{bag-at, count-at}
 use Rattle.cred_tables.proofs.Cleared.{count_found, filled_spare, free_clear}

@@ -5,7 +5,8 @@ use Rattle.cred_model.specs.State.{Task}
 use Rattle.cred_model.specs.Ends.{is_beside}
 use Rattle.cred_model.proofs.Places.{if_some}
 use Rattle.cred_model.proofs.Rising.{length-in_order}
-use Rattle.cred_cast.specs.Casts.{WaitsNowhere, cast_within}
+use Rattle.cred_model.specs.Casts.{WaitsNowhere}
+use Rattle.cred_cast.specs.Casts.{cast_within}
 use Rattle.cred_procs.specs.Tasks.{task_in, those}
 use Rattle.cred_tables.specs.Begin.{HasBegun, cast_begun}
 use Rattle.cred_tables.proofs.Begun.{begun_casts, few_those}

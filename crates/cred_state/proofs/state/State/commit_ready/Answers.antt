@@ -5,9 +5,10 @@ use Rattle.cred_model.specs.State.{Changed, Prepared}
 use Rattle.cred_model.specs.Moves.{with_current}
 use Rattle.cred_model.specs.Step.{is_access}
 use Rattle.cred_model.proofs.Places.{find-at}
+use Rattle.cred_model.specs.Casts.{casts_left}
 use Rattle.cred_slots.specs.Table.{Table}
 use Rattle.cred_procs.specs.Tasks.{task_in}
-use Rattle.cred_tables.specs.Kept.{SealsKept, casts_left, as_parts, state_of}
+use Rattle.cred_tables.specs.Kept.{SealsKept, as_parts, state_of}
 use Rattle.cred_tables.specs.Prepared.{changed_of}
 use Rattle.cred_state.proofs.Commits.{goes_on, owner-held, base-held_still, slot-kept_still, commit_kept, commit_done}
 use Rattle.cred_tables.proofs.Ending.{EndsWith, ends_so, ended-held}

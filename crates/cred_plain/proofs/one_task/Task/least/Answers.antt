@@ -2,7 +2,7 @@ use Rattle.std.proofs.Common.{◌≡◌, ◌+◌, ◌≤◌, ◌∷◌, ◌∙�
 use Rattle.std.proofs.lemmas.List.{take_all}
 use Rattle.cred_model.specs.State.{Task}
 use Rattle.cred_plain.proofs.Least.{more_numbers}
-use Rattle.cred_plain.proofs.task.Task.least.Goals as goal
+use Rattle.cred_plain.proofs.one_task.Task.least.Goals as goal
 
 pub loop-number-preserved : goal.loop-number-preserved
 loop-number-preserved c =

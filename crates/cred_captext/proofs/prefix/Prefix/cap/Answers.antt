@@ -1,5 +1,5 @@
-use Rattle.cred_captext.proofs.FrontLemmas.{whole, part}
-use Rattle.cred_captext.proofs.front.Front.cap.Goals as goal
+use Rattle.cred_captext.proofs.PrefixLemmas.{whole, part}
+use Rattle.cred_captext.proofs.prefix.Prefix.cap.Goals as goal
 
 pub returns-then-self-capitals : goal.returns-then-self-capitals
 returns-then-self-capitals c =

@@ -9,7 +9,7 @@ use Rattle.cred_event.specs.declared.content.Stage.{Stage}
 use Rattle.cred_event.specs.declared.content.Stage.TheVariants.{First, Calling}
 use Rattle.cred_event.specs.declared.event.Event.{Event}
 use Rattle.cred_model.specs.Course.{Course, hold_label, calling, event_in, event_at}
-use Rattle.cred_model.specs.Changing.{event_changes, call_changes, line_changes}
+use Rattle.cred_model.specs.FileChanges.{event_changes, call_changes, line_changes}
 
 -- where the event changes a file, so does the line
 abbrev IsOfChange : Content → Event → Type 0

@@ -3,7 +3,7 @@ ghost use Rattle.std.specs.Prelude.{◌≡◌, ◌∷◌, ◌++◌, []};
 ghost use Rattle.cred_captext.specs.Machine as machine;
 
 use crate::action::{Letter, Operator};
-use crate::front::Front;
+use crate::prefix::Prefix;
 use crate::sets::Sets;
 use cred_caps::CapSet;
 
@@ -19,7 +19,7 @@ pub enum Place {
     /// Behind the word.
     All,
     /// Within a name, or behind one, or behind a comma, where a name begins.
-    Name(Front),
+    Name(Prefix),
     /// Behind an operator that needs a letter.
     Sign(Operator),
     /// Behind an operator and its letters. Here a text may end.
@@ -40,7 +40,7 @@ pub struct Reader {
 impl Reader {
     /// Before the first byte.
     pub fn start() -> Reader
-        ensures { result ≡ machine.start }
+        ensures { result ≡ machine.first_reader }
     {
         Reader {
             sets: Sets::none(),
@@ -50,8 +50,8 @@ impl Reader {
     }
 
     /// The sets, where a text may end.
-    pub fn ended(&self) -> Option<Sets>
-        ensures { result ≡ machine.ended self.now }
+    pub fn sets_at_end(&self) -> Option<Sets>
+        ensures { result ≡ machine.sets_at_end self.now }
     {
         match self.place {
             Place::Letters(_) => Some(self.sets),
@@ -60,22 +60,22 @@ impl Reader {
     }
 
     /// Behind one more byte. None where no text goes on so.
-    pub fn step(&self, byte: u8) -> Option<Reader>
-        ensures { result ≡ machine.step self.now byte }
+    pub fn after_byte(&self, byte: u8) -> Option<Reader>
+        ensures { result ≡ machine.after_byte self.now byte }
     {
         match &self.place {
-            Place::Start => self.begun(byte),
+            Place::Start => self.before_clause(byte),
             Place::A => self.word(byte, Place::Al),
             Place::Al => self.word(byte, Place::All),
             Place::All => self.operated(CapSet::full(), byte),
-            Place::Name(front) => self.named(front, byte),
+            Place::Name(prefix) => self.within_name(prefix, byte),
             Place::Sign(operator) => self.lettered(*operator, byte),
             Place::Letters(operator) => self.letter_or_operator(*operator, byte),
         }
     }
 
     /// Before a clause: the word `all`, a name, or `=` for all.
-    fn begun(&self, byte: u8) -> Option<Reader>
+    fn before_clause(&self, byte: u8) -> Option<Reader>
         ensures { result ≡ machine.step_at self.now.sets self.now.list Place.Start byte }
     {
         match byte {
@@ -85,7 +85,7 @@ impl Reader {
                 place: Place::A,
             }),
             b'=' => self.operated(CapSet::full(), byte),
-            _ => self.longer(CapSet::empty(), &Front::none(), byte),
+            _ => self.longer_name(CapSet::empty(), &Prefix::none(), byte),
         }
     }
 
@@ -109,19 +109,20 @@ impl Reader {
     {
         let operator = Operator::of(byte)?;
         Some(Reader {
-            sets: self.sets.begun(list, operator),
+            sets: self.sets.after_operator(list, operator),
             list,
-            place: behind(operator),
+            place: place_after(operator),
         })
     }
 
     /// Within a name: a byte more, or where it is whole a comma or an operator.
-    fn named(&self, front: &Front, byte: u8) -> Option<Reader>
-        ensures { result ≡ machine.step_at self.now.sets self.now.list (Place.Name front.now) byte }
+    fn within_name(&self, prefix: &Prefix, byte: u8) -> Option<Reader>
+        ensures { result
+            ≡ machine.step_at self.now.sets self.now.list (Place.Name prefix.now) byte }
     {
-        match front.cap() {
+        match prefix.cap() {
             Some(cap) => self.separated(self.list.with(cap), byte),
-            None => self.longer(self.list, front, byte),
+            None => self.longer_name(self.list, prefix, byte),
         }
     }
 
@@ -133,21 +134,21 @@ impl Reader {
             return Some(Reader {
                 sets: self.sets,
                 list,
-                place: Place::Name(Front::none()),
+                place: Place::Name(Prefix::none()),
             });
         }
         self.operated(list, byte)
     }
 
     /// One byte more of a name.
-    fn longer(&self, list: CapSet, front: &Front, byte: u8) -> Option<Reader>
-        ensures { result ≡ machine.longer self.now.sets list (front.now ++ byte ∷ []) }
+    fn longer_name(&self, list: CapSet, prefix: &Prefix, byte: u8) -> Option<Reader>
+        ensures { result ≡ machine.longer_name self.now.sets list (prefix.now ++ byte ∷ []) }
     {
-        let front = front.longer(byte)?;
+        let prefix = prefix.longer(byte)?;
         Some(Reader {
             sets: self.sets,
             list,
-            place: Place::Name(front),
+            place: Place::Name(prefix),
         })
     }
 
@@ -157,7 +158,7 @@ impl Reader {
     {
         let letter = Letter::of(byte)?;
         Some(Reader {
-            sets: self.sets.flagged(self.list, operator, letter),
+            sets: self.sets.after_letter(self.list, operator, letter),
             list: self.list,
             place: Place::Letters(operator),
         })
@@ -181,8 +182,8 @@ impl Reader {
 }
 
 /// Behind an operator: `=` needs no letter.
-fn behind(operator: Operator) -> Place
-    ensures { result ≡ machine.behind operator }
+fn place_after(operator: Operator) -> Place
+    ensures { result ≡ machine.place_after operator }
 {
     match operator {
         Operator::Reset => Place::Letters(operator),
