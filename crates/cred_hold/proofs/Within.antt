@@ -34,7 +34,7 @@ no_other : (e : Loan) (before after : List Loan) → IsAlone (before ++ e ∷ af
 no_other e [] after h = h.0 refl
 no_other e (b ∷ before) after h = no_other e before after h.1
 
--- of entries of which one alone is on a slot, it is the one that is taken
+-- of loans of which one alone is on a slot, it is the one that is taken
 pub taken_alone : (e : Loan) (es new : List Loan) → IsAlone es e.slot → IsTaken (e ∷ es) e new → new ≡ es
 taken_alone e es new alone h = by h.0 h.2 h.3
   where

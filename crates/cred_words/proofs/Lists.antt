@@ -1,4 +1,4 @@
--- Lists, tokens that are out, entries, and words by slot.
+-- Lists, tokens that are out, loans, and words by slot.
 use Rattle.std.proofs.Common.{◌≡◌, ◌≢◌, ℕ, zero, suc, ◌+◌, ◌*◌, ◌/◌, ◌<◌, ◌⊎◌, inl, inr, ⊎_elim, List, [], ◌∷◌, ◌++◌, length, set, Some, Bool, true, false, true≢false, refl, sym, ap, ◌∙◌, subst, arith}
 use Rattle.std.specs.Prelude.{slice_get, slice_index, ◌==◌, if◌then◌else◌}
 use Rattle.std.specs.List.{AllByRecursion}
@@ -186,7 +186,7 @@ has_without k (e ∷ es) x m n =
     (λ p. pick (λ l. Has l x) (e.ticket == k) es (e ∷ without_ticket k es) (λ _. p) (λ _. inr (has_without k es x p n)))
     m
 
--- an entry is what its ticket strikes out
+-- a loan is what its ticket strikes out
 pub without-taken : (es : List Token) (x : Token) → AllApart es → Has es x → IsTaken es x (without_ticket x.ticket es)
 without-taken [] x a m = absurd m
 without-taken (e ∷ es) x a m =
@@ -198,7 +198,7 @@ without-taken (e ∷ es) x a m =
     pick (λ l. IsTaken (e ∷ es) x l) (e.ticket == x.ticket) es (e ∷ without_ticket x.ticket es) (λ b. absurd (ex.tickets (sym (eqb-true e.ticket x.ticket b)))) (λ _. (e ∷ r.0, r.1, ap (λ l. e ∷ l) r.2, ap (λ l. e ∷ l) r.3)))
     m
 
--- all other entries are apart from one that is taken away
+-- all other loans are apart from one that is taken away
 pub without_others : (es : List Token) (x : Token) → AllApart es → Has es x → AllByRecursion (Apart x) (without_ticket x.ticket es)
 without_others [] x a m = tt
 without_others (e ∷ es) x a m =

@@ -10,7 +10,7 @@ use Rattle.cred_words.specs.declared.view.Ledger.{Ledger}
 use Rattle.cred_words.specs.declared.view.View.{View}
 use Rattle.cred_words.specs.declared.view.View.TheVariants.{Master, Lent, Spent}
 use Rattle.cred_words.specs.Lists.{IsTaken}
-use Rattle.cred_words.specs.Words.{ledger_with, put_words, token_of, after_lending_token, lends, after_return_of_token, LearnedToken, ReadAt, PutAt, as_entry, EntryFits, without_ticket, after_back}
+use Rattle.cred_words.specs.Words.{ledger_with, put_words, token_of, after_lending_token, lends, after_return_of_token, LearnedToken, ReadAt, PutAt, as_loan, LoanFits, without_ticket, after_back}
 use Rattle.cred_words.specs.Seen.{IsSealedSlot, NoTokenIsOn}
 use Rattle.cred_words.proofs.Steps.{Held, Kept, lends_hold, lends_writer, returns, learns, reads, puts}
 
@@ -36,18 +36,18 @@ lends_writer_as id me d label slot z is small h =
 pub returns_as : (id other : ℕ) (me them : Held) (d : Ledger) (t : Token) → id ≡ 0 → me ≡ held (Master d) → them ≡ held (Lent t) → d.kept ≡ None → Joins Kept id me.0 other them.0 (after_return_of_token me.0 them.0) Spent
 returns_as id other me them d t z is they none =
     let P : ℕ × Held × Held → Type 0 = λ x. Joins Kept x.0 x.1.0 other x.2.0 (after_return_of_token x.1.0 x.2.0) Spent in
-    let Q : Option Token → Type 0 = λ k. let e : Ledger = ledger_with d.slots d.next d.entries k in Joins Kept 0 (Master e) other (Lent t) (after_return_of_token (Master e) (Lent t)) Spent in
-    subst P (λ i. (sym z i, sym is i, sym they i)) (subst Q (sym none) (returns d.slots d.next d.entries other t))
+    let Q : Option Token → Type 0 = λ k. let e : Ledger = ledger_with d.slots d.next d.loans k in Joins Kept 0 (Master e) other (Lent t) (after_return_of_token (Master e) (Lent t)) Spent in
+    subst P (λ i. (sym z i, sym is i, sym they i)) (subst Q (sym none) (returns d.slots d.next d.loans other t))
 
 pub learns_as : (id : ℕ) (me : Held) (d : Ledger) (t : Token) (put : Bool) (n : ℕ) → id ≡ 0 → me ≡ held (Master d) → d.kept ≡ Some t → Allows Kept n id me 0 (λ m. m) (λ _ w. LearnedToken put me.0 w.0 × (w.1 ≡ me.1))
 learns_as id me d t put n z is some =
     let P : ℕ × Held → Type 0 = λ x. Allows Kept n x.0 x.1 0 (λ m. m) (λ _ w. LearnedToken put x.1.0 w.0 × (w.1 ≡ x.1.1)) in
-    let Q : Option Token → Type 0 = λ k. let e : Ledger = ledger_with d.slots d.next d.entries k in Allows Kept n 0 (held (Master e)) 0 (λ m. m) (λ _ w. LearnedToken put (Master e) w.0 × (w.1 ≡ [])) in
-    subst P (λ i. (sym z i, sym is i)) (subst Q (sym some) (learns d.slots d.next d.entries t put n))
+    let Q : Option Token → Type 0 = λ k. let e : Ledger = ledger_with d.slots d.next d.loans k in Allows Kept n 0 (held (Master e)) 0 (λ m. m) (λ _ w. LearnedToken put (Master e) w.0 × (w.1 ≡ [])) in
+    subst P (λ i. (sym z i, sym is i)) (subst Q (sym some) (learns d.slots d.next d.loans t put n))
 
-pub told : (v w : View) (d : Ledger) (t : Token) (put : Bool) → v ≡ Master d → d.kept ≡ Some t → LearnedToken put v w → IsTaken d.entries (as_entry t) (without_ticket t.ticket d.entries) × EntryFits d.slots (as_entry t) × (w ≡ Master (after_back d t put))
+pub told : (v w : View) (d : Ledger) (t : Token) (put : Bool) → v ≡ Master d → d.kept ≡ Some t → LearnedToken put v w → IsTaken d.loans (as_loan t) (without_ticket t.ticket d.loans) × LoanFits d.slots (as_loan t) × (w ≡ Master (after_back d t put))
 told v w d t put is some h =
-    let P : Option Token → Type 0 = λ k. LearnedToken put (Master (ledger_with d.slots d.next d.entries k)) w in
+    let P : Option Token → Type 0 = λ k. LearnedToken put (Master (ledger_with d.slots d.next d.loans k)) w in
     subst P some (subst (λ (u : View). LearnedToken put u w) is h)
 
 pub reads_as : (id : ℕ) (me : Held) (t : Token) (word n : ℕ) → me ≡ held (Lent t) → Allows Kept n id me word (λ m. m) (λ m w. (w.0 ≡ me.0) × ReadAt word me.0 m × (w.1 ≡ me.1))
@@ -69,10 +69,10 @@ lent_ok b m t is w s =
     subst P (sym is) (refl, w, s)
 
 -- the master's view after a return
-pub came_back : (me them : Held) (d : Ledger) (t : Token) → me ≡ held (Master d) → them ≡ held (Lent t) → (let back : Held = (after_return_of_token me.0 them.0, me.1) in back) ≡ held (Master (ledger_with d.slots d.next d.entries (Some t)))
+pub came_back : (me them : Held) (d : Ledger) (t : Token) → me ≡ held (Master d) → them ≡ held (Lent t) → (let back : Held = (after_return_of_token me.0 them.0, me.1) in back) ≡ held (Master (ledger_with d.slots d.next d.loans (Some t)))
 came_back me them d t is they =
     let R : Held → Held → Held = λ v u. (after_return_of_token v.0 u.0, v.1) in
-    subst (λ (v : Held). R v them ≡ held (Master (ledger_with d.slots d.next d.entries (Some t)))) (sym is) (ap (R (held (Master d))) they)
+    subst (λ (v : Held). R v them ≡ held (Master (ledger_with d.slots d.next d.loans (Some t)))) (sym is) (ap (R (held (Master d))) they)
 
 -- what a put tells
 pub was_put : (v w : View) (t : Token) (word i n : ℕ) → v ≡ Lent t → i < width → word ≡ word_place t.slot i → PutAt word n v w → w ≡ Lent (put_words t (set t.words i n))

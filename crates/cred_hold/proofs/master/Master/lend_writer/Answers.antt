@@ -12,7 +12,7 @@ lend_writer-requires-clause-within c = let n = count_is in let small = c.require
 
 pub lend_writer-requires-clause-alone : goal.lend_writer-requires-clause-alone
 lend_writer-requires-clause-alone c =
-    alone-seen c.self.inside.inner.ledger.entries c.args.slot (subst (λ es. IsAlone es c.args.slot) (sym (ap (λ m. m.entries) c.self.view_is)) c.requires.alone)
+    alone-seen c.self.inside.inner.ledger.loans c.args.slot (subst (λ es. IsAlone es c.args.slot) (sym (ap (λ m. m.loans) c.self.view_is)) c.requires.alone)
 
 pub invariant_of-self : goal.invariant_of-self
 invariant_of-self c =

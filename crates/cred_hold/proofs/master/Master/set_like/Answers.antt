@@ -42,10 +42,10 @@ returns-clause-made c d at =
     let slot = ap (λ (w : Written). w.slot) putting ∙ lent.writer.2 in
     let put = ap (λ (w : Written). w.put) putting in
     let back = c.take_back.ensures in
-    let P : List Loan × Loan → Type 0 = λ x. IsTaken x.0 x.1 c.take_back.new.self.entries in
-    let out = ap (λ (m : Mastered). m.entries) same ∙ lent.entries in
+    let P : List Loan × Loan → Type 0 = λ x. IsTaken x.0 x.1 c.take_back.new.self.loans in
+    let out = ap (λ (m : Mastered). m.loans) same ∙ lent.loans in
     let slots_are = ap (λ (m : Mastered). m.slots) same ∙ lent.slots in
-    let taken = subst P (λ k. (out k, loan (label k) (slot k) None)) back.entry in
-    let entries = taken_alone (loan 0 c.args.slot None) c.args.self.now.entries _ c.requires.alone taken in
+    let taken = subst P (λ k. (out k, loan (label k) (slot k) None)) back.taken in
+    let loans = taken_alone (loan 0 c.args.slot None) c.args.self.now.loans _ c.requires.alone taken in
     let slots = back.slots ∙ (λ k. set (slots_are k) (slot k) (put k)) ∙ set-set _ _ _ _ in
-    λ k. record { id = (back.same ∙ ap (λ (m : Mastered). m.id) same ∙ lent.same) k; entries = entries k; slots = slots k }
+    λ k. record { id = (back.same ∙ ap (λ (m : Mastered). m.id) same ∙ lent.same) k; loans = loans k; slots = slots k }

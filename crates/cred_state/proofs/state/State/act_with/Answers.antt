@@ -96,7 +96,7 @@ invariant_of-self-2 c =
     rw (set_there next _ found.there _ c.set_current_at.ensures, made, c.act_at-left.ensures.casts, flags) (
       act_kept c.self.invariant.0 c.args.number c.args.next.task next _ found.has new rule c.set_like.ensures.long
           (seals_spare c.in_ok-reserve.ensures.ok c.seal_next-new.ensures) sound.tasks (drops c.drop_later.ensures.held c.drop_later.ensures.table),
-      put_free t.prepared t.master.entries t.master.slots c.in-Some.slot (Some new)
+      put_free t.prepared t.master.loans t.master.slots c.in-Some.slot (Some new)
           (free_apart c.self.invariant.0 c.in-Some.slot (some_spare t.slots c.in_ok-reserve.ensures.ok (sym c.in-Some.ensures))) c.self.invariant.1,
     )
 

@@ -103,7 +103,7 @@ invariant_of-self-2 c =
     = c.set_current.ensures.tasks ∙ ap (λ (n : ℕ). with_current c.end_with.new.tasks n c.seal_kept-number.result) (sym same.0) in
     let out = rw (← c.self.view_is) at c.requires.out in
     let home = rw (← c.self.view_is) at c.requires.home in
-    let words = committed_words t.master.entries c.self.invariant c.args.label gives.gives.place _ gives.gives.found gives.gives.there c.finish-last.result.1 refl sound out home in
+    let words = committed_words t.master.loans c.self.invariant c.args.label gives.gives.place _ gives.gives.found gives.gives.there c.finish-last.result.1 refl sound out home in
     let change : c.last.inside.change ≡ c.args.change = ap (λ (x : Changed). x.change) c.last.view_is ∙ same.2 in
     let process = owner_process t.tasks c.args.task c.unwrap-process.result e.owner e.lives c.unwrap-process.ensures c.process_of.ensures in
     let casts : c.drop_cast.new.casts ≡ casts_left c.args.change e.owner.process t.casts
@@ -121,7 +121,7 @@ invariant_of-self-2 c =
     rw (tasks, casts, gives.gives.left, flags) (
       commit_kept c.self.invariant.0 gives.gives.place _ gives.gives.there c.args.change now own less c.seal_kept-number.new.slots
           c.finish-last.result.1 words seals sound.tasks sound.slots.own,
-      put_less t.prepared gives.gives.place t.master.entries t.master.slots c.self.invariant.1,
+      put_less t.prepared gives.gives.place t.master.loans t.master.slots c.self.invariant.1,
     )
 
 pub returns-clause-ok : goal.returns-clause-ok
@@ -144,7 +144,7 @@ returns-clause-ok c =
     = c.set_current.ensures.tasks ∙ ap (λ (n : ℕ). with_current c.end_with.new.tasks n c.seal_kept-number.result) (sym same.0) in
     let out = rw (← c.self.view_is) at c.requires.out in
     let home = rw (← c.self.view_is) at c.requires.home in
-    let words = committed_words t.master.entries c.self.invariant c.args.label gives.gives.place _ gives.gives.found gives.gives.there c.finish-last.result.1 refl sound out home in
+    let words = committed_words t.master.loans c.self.invariant c.args.label gives.gives.place _ gives.gives.found gives.gives.there c.finish-last.result.1 refl sound out home in
     let allowed = rw (← c.self.view_is) at c.requires.allowed in
     let idle = rw (← c.self.view_is) at c.requires.idle in
     let gains : c.last.inside.gains ≡ c.finish-last.result.1.gains = ap (λ (x : Changed). x.gains) c.last.view_is in

@@ -45,11 +45,11 @@ invariant_of-self-2 c =
     c.push_override.ensures.pushed c.push_override.ensures.tasks c.if-not-push_override.false in
     let out = rw (← c.self.view_is) at c.requires.out in
     let home = rw (← c.self.view_is) at c.requires.home in
-    let words = overridden_words t.master.entries c.self.invariant c.args.task c.args.label gives.place _ gives.found gives.there c.finish.result.1 refl sound out home in
+    let words = overridden_words t.master.loans c.self.invariant c.args.task c.args.label gives.place _ gives.found gives.there c.finish.result.1 refl sound out home in
     rw gives.left (
       prepared_kept c.self.invariant.0 c.args.task c.push_override.new.self sound.tasks c.seal_kept-number.new.slots lent c.args.label gives.place _ gives.there
           sound.slots.own c.finish.result.1 c.in_ok-reserve.ensures.ok words c.seal_kept-number.ensures c.next_number-next.ensures,
-      put_less t.prepared gives.place t.master.entries t.master.slots c.self.invariant.1,
+      put_less t.prepared gives.place t.master.loans t.master.slots c.self.invariant.1,
     )
 
 pub returns-clause-ok : goal.returns-clause-ok
@@ -63,7 +63,7 @@ returns-clause-ok c =
     c.push_override.ensures.pushed c.push_override.ensures.tasks c.if-not-push_override.false in
     let out = rw (← c.self.view_is) at c.requires.out in
     let home = rw (← c.self.view_is) at c.requires.home in
-    let words = overridden_words t.master.entries c.self.invariant c.args.task c.args.label gives.place _ gives.found gives.there c.finish.result.1 refl sound out home in
+    let words = overridden_words t.master.loans c.self.invariant c.args.task c.args.label gives.place _ gives.found gives.there c.finish.result.1 refl sound out home in
     let for = access_last t.prepared c.args.task c.args.label c.is_for_access.result c.is_for_access.ensures c.if-not-is_for_access.false gives.place _
     c.finish.result.1 gives.found gives.there refl in
     rw (← c.self.view_is, gives.left)

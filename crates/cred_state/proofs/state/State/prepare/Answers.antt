@@ -49,7 +49,7 @@ invariant_of-self-2 c =
     rw (c.in_ok-prepare.ensures.ok, c.clear.ensures.made) (
       prepare_kept c.self.invariant.0 c.add.new.self p claim
           (rw (← may.is) (hold-held_found c.self.invariant.0 c.args.hold may.base may.has)),
-      put_more t.prepared p t.master.entries t.master.slots refl (omega (arith, c.clear.ensures.long, free_within t.slots slot claim.takes))
+      put_more t.prepared p t.master.loans t.master.slots refl (omega (arith, c.clear.ensures.long, free_within t.slots slot claim.takes))
           (free_apart c.self.invariant.0 slot claim.takes) c.self.invariant.1,
     )
 

@@ -91,7 +91,7 @@ invariant_of-self-2 c =
       replaced_kept c.self.invariant.0 c.drop_later.new.self c.args.task _ new may.has c.set_like.ensures.long
           (seals_spare c.in_ok-reserve.ensures.ok c.seal_next-number.ensures) sound.tasks (drops c.drop_later.ensures.held c.drop_later.ensures.table)
           t.casts c.renew_in.new.dump,
-      put_free c.self.inside.prepared c.self.inside.master.entries c.self.inside.master.slots c.in-Some.slot (Some new)
+      put_free c.self.inside.prepared c.self.inside.master.loans c.self.inside.master.slots c.in-Some.slot (Some new)
           (free_apart c.self.invariant.0 c.in-Some.slot (some_spare c.self.inside.slots c.in_ok-reserve.ensures.ok (sym c.in-Some.ensures))) c.self.invariant.1,
     )
 

@@ -48,7 +48,7 @@ invariant_of-self-2 c =
     rw (tasks, c.set.ensures.made) (
       init_kept c.self.invariant.0 c.seal_next-current.new.slots c.args.number c.args.process c.set.ensures.long
           (seals_spare c.in_ok-reserve.ensures.ok seals) c.args.cred.now c.start_in.new.dump,
-      put_free t.prepared t.master.entries t.master.slots c.in-Some.slot (Some c.args.cred.now)
+      put_free t.prepared t.master.loans t.master.slots c.in-Some.slot (Some c.args.cred.now)
           (free_apart c.self.invariant.0 c.in-Some.slot (some_spare t.slots c.in_ok-reserve.ensures.ok (sym c.in-Some.ensures))) c.self.invariant.1,
     )
 
