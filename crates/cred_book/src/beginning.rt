@@ -32,7 +32,7 @@ pub(crate) struct Beginning {
     pub(crate) outs: Vec<Option<u32>>,
 }
 
-/// All that a book of the script has but the script, which is only lent: so it isn't let go of on
+/// All that a book of the script has but the script, which is only lent: so it isn't dropped on
 /// each way out of here.
 ///
 /// # Errors

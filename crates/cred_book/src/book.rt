@@ -76,8 +76,8 @@ impl Model for Book {
         × AreOut (replay b.script b.journal.items) b.state.words.out };
 }
 
-/// Written out, so that it is proved here alone: of a derived one, each crate above that lets go of
-/// a book proves all parts anew.
+/// Written out, so that it is proved here alone: of a derived one, each crate above that drops a
+/// book proves all parts anew.
 impl Drop for Book {
     fn drop(self) {
         let Book {

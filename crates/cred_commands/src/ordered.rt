@@ -88,7 +88,7 @@ fn write_lines<K: Sink>(
     write_last(sink, &mut pen, script, &entries)
 }
 
-/// The same, on a state of its own: to own one is dear to prove, so nothing else is done here.
+/// The same, on a state of its own: to own one is expensive to prove, so nothing else is done here.
 ///
 /// # Errors
 ///

@@ -61,7 +61,7 @@ fn tell_lines(
     Ok(told)
 }
 
-/// The same, on a state of its own: to own one is dear to prove, so nothing else is done here.
+/// The same, on a state of its own: to own one is expensive to prove, so nothing else is done here.
 fn tell_in_order(alloc: Global, script: &Script) -> Result<Summary, NoMemory>
     ensures { IfOk result (λ told. TellsSequence script.now told) }
 {

@@ -110,22 +110,22 @@ passed_all input [] before over = rw (before.all ∙ append-nil before.lines, be
 passed_all input (b ∷ bs) before over = absurd (omega arith)
 
 -- What follows a line of the same length, behind the bytes before it.
-after_at : (front rest line : List ℕ) → length line ≡ length REPORT → drop (length (front ++ with_line_feed REPORT)) (front ++ rest) ≡ drop (length line + 1) rest
-after_at front rest line same =
-    let size : length (front ++ with_line_feed REPORT) ≡ length front + (length line + 1) = omega (arith, length-append front (with_line_feed REPORT), length-append REPORT (10 ∷ [])) in
-    rw size (sym (drop-drop (length line + 1) (length front) (front ++ rest)) ∙ ap (drop (length line + 1)) (drop_at front rest (length front) refl))
+after_at : (prefix rest line : List ℕ) → length line ≡ length REPORT → drop (length (prefix ++ with_line_feed REPORT)) (prefix ++ rest) ≡ drop (length line + 1) rest
+after_at prefix rest line same =
+    let size : length (prefix ++ with_line_feed REPORT) ≡ length prefix + (length line + 1) = omega (arith, length-append prefix (with_line_feed REPORT), length-append REPORT (10 ∷ [])) in
+    rw size (sym (drop-drop (length line + 1) (length prefix) (prefix ++ rest)) ∙ ap (drop (length line + 1)) (drop_at prefix rest (length prefix) refl))
 
 -- the line is `report`
 pub passed_found : (input rest line : List ℕ) (more : List (List ℕ)) → Passed input rest → 0 < length rest → lines_of rest ≡ line ∷ more → is_report line ≡ true
     → input_parts input ≡ Some (take (length input - length rest) input, drop (length line + 1) rest)
 passed_found input rest line more before some is found =
-    let front : List ℕ = concat (map with_line_feed before.lines) in
+    let prefix : List ℕ = concat (map with_line_feed before.lines) in
     let lines : lines_of input ≡ before.lines ++ line ∷ more = before.all ∙ ap (λ z. before.lines ++ z) is in
     let any : list_any is_report (lines_of input) ≡ true = rw lines (some_more is_report before.lines line more found) in
-    let front_is : before_report input ≡ front = ap (λ z. concat (map with_line_feed (before_first is_report z))) lines ∙ ap (λ z. concat (map with_line_feed z)) (first_passing is_report before.lines line more before.none found) in
-    let input_is : input ≡ front ++ rest = before.bytes some in
+    let prefix_is : before_report input ≡ prefix = ap (λ z. concat (map with_line_feed (before_first is_report z))) lines ∙ ap (λ z. concat (map with_line_feed z)) (first_passing is_report before.lines line more before.none found) in
+    let input_is : input ≡ prefix ++ rest = before.bytes some in
     let line_is : line ≡ REPORT = (bytes_eq-Decides line REPORT).0 found in
-    let count : length front ≡ length input - length rest = omega (arith, ap length input_is, length-append front rest) in
-    let first : take (length input - length rest) input ≡ front = rw (← count) (rw input_is (take_at front rest (length front) refl)) in
-    let after : drop (length (front ++ with_line_feed REPORT)) input ≡ drop (length line + 1) rest = rw input_is (after_at front rest line (ap length line_is)) in
-    rw (any, front_is, first) (ap (λ z. Some (front, z)) after)
+    let count : length prefix ≡ length input - length rest = omega (arith, ap length input_is, length-append prefix rest) in
+    let first : take (length input - length rest) input ≡ prefix = rw (← count) (rw input_is (take_at prefix rest (length prefix) refl)) in
+    let after : drop (length (prefix ++ with_line_feed REPORT)) input ≡ drop (length line + 1) rest = rw input_is (after_at prefix rest line (ap length line_is)) in
+    rw (any, prefix_is, first) (ap (λ z. Some (prefix, z)) after)

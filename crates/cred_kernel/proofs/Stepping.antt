@@ -157,7 +157,7 @@ pub err_same : {E : Type 0} (P : E → Type 0) (before after : Recorded) (step :
 err_same {E} P before after (Ok step) err = tt
 err_same {E} P before after (Err e) err = err.1
 
--- after want of memory the turn is as it was
+-- where memory ran out the turn is as it was
 pub same_stepped : {E : Type 0} (before after : Recorded) (lane : ℕ) (was : Numbers) (step : Result Step E) → was ≡ numbers_in before lane
     → OnErr step (after ≡ before) → OnErr step (after_step was (ended_of after.script after.journal lane) step ≡ was)
 same_stepped {E} before after lane was (Ok step) is err = tt

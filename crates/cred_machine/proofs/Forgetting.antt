@@ -19,7 +19,7 @@ use Rattle.cred_sound.specs.Sound.{IsSound}
 use Rattle.cred_sound.proofs.Parts.{with_left}
 use Rattle.cred_sound.proofs.Sound.{like_sound, step_sound}
 use Rattle.cred_plain.specs.Creds.{gone, slots_of}
-use Rattle.cred_machine.specs.Kept.{KeepsReferred, as_begun, may_have_swept, may_let_go}
+use Rattle.cred_machine.specs.Kept.{KeepsReferred, as_begun, may_have_swept, may_have_dropped}
 use Rattle.cred_plain.specs.References.{is_among, refer_to}
 use Rattle.cred_plain.specs.declared.references.References.{References}
 use Rattle.cred_machine.proofs.Free.{any-map}
@@ -148,9 +148,9 @@ stays_kept s t answer keeps unswept before = by keeps.swept
         (subst (λ (left : List ℕ). All (Contains (refs t)) (refs (with_left s left))) same (refs_each (Contains (refs t)) (with_left s keeps.left) keeps.each)) before
     by (inr swept) = let never : true ≡ false = sym swept ∙ unswept in cc
 
--- so it is where the event let go of nothing
+-- so it is where the event dropped nothing
 pub still_referred : (s t : State) (event : Event) (answer : Answer) → Keeps s (counted event (answer, t))
-    → may_let_go event (length s.deferred) answer (length t.deferred) ≡ false → KeepsReferred s → KeepsReferred t
+    → may_have_dropped event (length s.deferred) answer (length t.deferred) ≡ false → KeepsReferred s → KeepsReferred t
 still_referred s t (Raw task call) answer keeps kept before = stays_kept s t (as_begun answer) keeps kept before
 still_referred s t event answer keeps kept before = stays_kept s t answer keeps kept before
 

@@ -1,4 +1,4 @@
--- What the events of tasks let go of: nothing, unless there was a sweep.
+-- What the events of tasks drop: nothing, unless there was a sweep.
 use Rattle.std.proofs.Common.{◌≡◌, ◌==◌, ◌&&◌, ◌⊎◌, inl, inr, not, ℕ, List, [], ◌∷◌, ◌++◌, length, slice_get, find, drop, Some, Bool, true, false, cond, refl, sym, ap, ◌∙◌, subst, arith}
 use Rattle.std.specs.List.{All, Contains, count_by}
 use Rattle.std.specs.Option.{option_map}

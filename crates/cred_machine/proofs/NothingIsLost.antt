@@ -1,4 +1,4 @@
--- No event lets go of what is referred to, and only a sweep of what was given up.
+-- No event drops what is referred to, and only a sweep drops what was given up.
 use Rattle.std.proofs.Common.{◌≡◌, ◌==◌, ◌-◌, ◌⊎◌, inl, inr, ℕ, List, [], ◌∷◌, ◌++◌, length, nat_lt, slice_get, slice_set, find, position, Some, None, true, Result, Ok, Err, refl, arith}
 use Rattle.std.specs.Option.{option_and_then}
 use Rattle.cred_ids.specs.Limits.{TASKS, OPEN_FILES, PREPARED, DEPTH}

@@ -113,7 +113,7 @@ map_same f g (x ∷ xs) same = ap (λ y. y ∷ map f (map g xs)) (same x) ∙ ap
 abbrev pub Differ : {X : Type 0} → (X → ℕ) → X → X → Type 0
 Differ f x y = f x ≢ f y
 
--- what is at a place does not hang on what is read past the end
+-- what is at a place does not depend on what is read past the end
 same_at : {X : Type 0} (xs : List X) (i : ℕ) (d e : X) → i < length xs → get_or xs i d ≡ get_or xs i e
 same_at xs i d e lt = get_or_from_slice_get xs i (get_or xs i e) d (slice_get-get_or xs i e lt)
 

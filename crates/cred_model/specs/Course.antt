@@ -74,7 +74,7 @@ calling hold (call.SetAttr file attr) = event.SetAttr hold file attr
 calling hold (call.Stat file) = event.Stat hold file
 
 -- The event of a stage. A line takes hold of the credential that its task acts with, does what it
--- is about, and lets go.
+-- is about, and drops it.
 abbrev pub event_in : ℕ → Content → Stage → Option Event
 event_in line (One event) First = Some event
 -- an id call: the task makes its step, and then the other threads of its process, one after another

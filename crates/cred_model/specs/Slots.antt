@@ -50,7 +50,7 @@ is_live s slot = list_any (λ number. stands_in s.creds slot number) (refs s) ||
 abbrev pub least_free : State → Option ℕ
 least_free s = find (λ slot. not (is_live s slot)) slots
 
--- The sweep lets go of all that was given up.
+-- The sweep drops all that was given up.
 abbrev pub swept : State → State
 swept s = record s { deferred = [] }
 

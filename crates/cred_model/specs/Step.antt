@@ -125,7 +125,7 @@ by_take_file s label fd = do
   taken ← ok_or (opener_of s fd) Ebadf
   take_hold s label taken
 
--- a label lets go
+-- a label drops its hold
 abbrev pub by_release : State → ℕ → Result (Answer × State) Answer
 by_release s label = do
   place ← ok_or (position (λ h. h.label == label) s.holds) (NoHold label)
@@ -283,8 +283,8 @@ aborted cast s =
       dumpable = without_flag s.dumpable cast.process;
     }
 
--- The waiting thread makes the same call on its own current credential. A refusal, and a want of a
--- slot, end the process.
+-- The waiting thread makes the same call on its own current credential. A refusal, or no
+-- free slot, ends the process.
 abbrev pub follow : State → Broadcast → ℕ → Task → Numbered → Result Credential Answer
     → Answer × State
 follow s cast task owner old (Err refusal) = (Aborted task cause.Perm, aborted cast s)

@@ -146,10 +146,10 @@ impl Pen {
         ensures room { self.new.room + length word.now ≡ self.old.room + length result.now }
     {
         match word.split_last_chunk::<N>() {
-            Some((front, last)) => {
+            Some((prefix, last)) => {
                 let own = *last;
                 self.piece(&own);
-                front
+                prefix
             }
             None => word,
         }

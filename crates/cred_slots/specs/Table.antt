@@ -58,7 +58,7 @@ is_live_in t slot =
 abbrev pub least_free_in : Table → Option ℕ
 least_free_in t = find (λ slot. not (is_live_in t slot)) slots
 
--- The sweep lets go of all that was given up.
+-- The sweep drops all that was given up.
 abbrev pub swept_table : Table → Table
 swept_table t = record t { deferred = [] }
 

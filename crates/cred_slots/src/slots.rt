@@ -57,8 +57,8 @@ impl Model for Slots {
     } };
 
     ghost invariant = { λ s.
-        AreSoundRows s.rows.items s.sealed.items s.deferred.items s.kept s.used s.late s.held s.spare
-        (vec_capacity s.sealed) (vec_capacity s.deferred) };
+        AreSoundRows s.rows.items s.sealed.items s.deferred.items s.kept s.used s.late s.held
+        s.spare (vec_capacity s.sealed) (vec_capacity s.deferred) };
 }
 
 impl Slots {

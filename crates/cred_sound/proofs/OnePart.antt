@@ -1,4 +1,4 @@
--- A change of one part of the state, and of what hangs on it.
+-- A change of one part of the state, and of what depends on it.
 use Rattle.std.proofs.Common.{◌≡◌, ◌≢◌, ◌==◌, ◌<◌, ℕ, List, [], ◌∷◌, ◌++◌, map, slice_get, Some, true, refl, sym, ap, ◌∙◌, subst, position}
 use Rattle.std.specs.List.{All, Contains, remove}
 use Rattle.std.proofs.lemmas.Bool.{eqb-true}
@@ -60,7 +60,7 @@ fits_own s event t label place p rest seals at is order =
           (λ q same kept. subst (SealsOf event) (sym (ap (λ (q : Prepared). q.label) (same kept) ∙ eqb-true p.label label test)) seals) s.prepared one;
     }
 
--- ---- a change of one part, and of what hangs on it
+-- ---- a change of one part, and of what depends on it
 
 -- the event is refused, only reads, or only sweeps
 pub still : (script : Script) (s : State) (event : Event) (answer : Answer) (left : List ℕ) → All (Contains s.deferred) left

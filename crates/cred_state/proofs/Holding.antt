@@ -1,4 +1,4 @@
--- A label takes hold of a credential, and lets go.
+-- A label takes hold of a credential, and drops it.
 use Rattle.std.proofs.Common.{IfOk, Result, Ok, Err, ◌≡◌, ℕ, ◌<◌, ◌==◌, List, [], ◌∷◌, ◌++◌, find, position, remove, count_by, slice_get, Option, Some, ap, ◌∙◌, refl}
 use Rattle.cred_record.specs.Credential.{Credential}
 use Rattle.cred_event.specs.declared.answer.Answer.{Answer}

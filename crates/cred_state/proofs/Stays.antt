@@ -24,7 +24,7 @@ use Rattle.cred_hold.specs.Tokens.{Loan, loan}
 use Rattle.cred_tables.specs.Out.{AreHome, AreOut, hold_token, kept_tokens, tokens_in, needs_tokens}
 use Rattle.cred_tables.proofs.Outs.{IsToken, IsHeld, IsPrepared, token_is, hold_token_is, kept_tokens_are, has_first, has_last}
 
--- the event lets go of what the label has
+-- the event drops what the label has
 pub data EndsLabel (event : Event) (label : ℕ) : Type 0 where
   LetsGo : event ≡ Release label → EndsLabel event label
   SealsIt : SealsOf event label → EndsLabel event label

@@ -1,4 +1,4 @@
--- A state of which tokens are lent, and decisions that hang on less than they are given.
+-- A state of which tokens are lent, and decisions that depend on less than they are given.
 use Rattle.std.proofs.Common.{◌≡◌, ℕ, ◌||◌, Bool, true, false, List, [], ◌∷◌, Option, None, Some, refl, sym, ap, ◌∙◌, subst}
 use Rattle.std.specs.Option.{option_map_or}
 use Rattle.cred_record.specs.Credential.{Credential}

@@ -34,7 +34,7 @@ no_more_dropped t later ms drops late n some =
     let each = count-append test t.held t.deferred in
     omega (arith, some, held, deferred, all, each)
 
--- a sweep lets go of them
+-- a sweep drops them
 pub no_more_swept : (t : Table) → NoMore t (swept_table t)
 no_more_swept t n some =
     let test : ℕ → Bool = λ k. k == n in

@@ -38,7 +38,7 @@ impl Book {
     ///
     /// # Errors
     ///
-    /// Want of memory, with the work, which is still out: the book is as it was.
+    /// Memory ran out: with the work, which is still out. The book is as it was.
     pub fn finish(&mut self, cells: &Cells, lane: u32, work: Work) -> Result<Step, Unfinished>
         requires own { self.old.words.id ≡ cells.now }
         requires stands { BookStands self.old }
@@ -183,7 +183,7 @@ impl Book {
     ///
     /// # Errors
     ///
-    /// Want of memory, with the work: the book is as it was.
+    /// Memory ran out: with the work. The book is as it was.
     fn enter_decided(
         &mut self,
         cells: &Cells,

@@ -132,7 +132,7 @@ impl State {
             self.slots.sweep();
             return Ok(Answer::TableFull);
         };
-        // The others wait before the credential is sealed, since that may want memory.
+        // The others wait before the credential is sealed, since that may take memory.
         let left = begin_in(&self.tasks, &mut self.casts, line, task, call)?;
         renew_in(&self.tasks, &mut self.dump, task, other);
         let number = seal_next(&mut self.slots, slot);

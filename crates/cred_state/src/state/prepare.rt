@@ -53,7 +53,7 @@ impl State {
             Err(answer) => return Ok(answer),
         };
         self.slots.reserve()?;
-        // The label is entered before its slot is kept, since that may want memory.
+        // The label is entered before its slot is kept, since that may take memory.
         let Some(slot) = self.slots.free_slot() else {
             self.slots.sweep();
             return Ok(Answer::TableFull);
