@@ -2,7 +2,7 @@
 //! of theirs has made (nptl(7)).
 #![tactic(auto)]
 
-mod cast;
+mod broadcast;
 pub mod casts;
 
 pub use casts::Casts;

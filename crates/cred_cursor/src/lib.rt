@@ -8,7 +8,7 @@
 #![tactic(auto)]
 
 mod cursor;
-mod cursors;
+mod lane_cursors;
 
 pub use cursor::{cursor_after, first_cursor, next_event};
-pub use cursors::Cursors;
+pub use lane_cursors::Cursors;

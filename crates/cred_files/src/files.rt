@@ -5,7 +5,7 @@ ghost use Rattle.std.specs.Option.{option_map};
 ghost use Rattle.cred_ids.specs.Limits.{OPEN_FILES};
 ghost use Rattle.cred_files.specs.Open.{AreOpen, file_as, file_under, descriptor_place, Closes};
 
-use crate::file::File;
+use crate::open_file::File;
 use cred_ids::{NoMemory, limits};
 use indexmap::IndexMap;
 use std::alloc::Global;

@@ -3,7 +3,7 @@
 //! found by their descriptors: none is searched for.
 #![tactic(auto)]
 
-mod file;
 pub mod files;
+mod open_file;
 
 pub use files::Files;

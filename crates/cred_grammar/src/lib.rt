@@ -10,11 +10,11 @@
 //! tables of keywords in `cred_spelling`.
 #![tactic(auto)]
 
-mod reader;
 mod reading;
 mod refusal;
+mod script;
 mod uses;
 
 pub use cred_spelling::{Reason, line_count};
-pub use reader::read;
 pub use refusal::ScriptRefusal;
+pub use script::read;
