@@ -8,8 +8,8 @@ use Rattle.cred_laws.proofs.AnsweredLaws.{in_order_is_answered}
 use Rattle.cred_generate.specs.Summary.{HasRoom, nothing_told, told_on}
 use Rattle.cred_generate.specs.declared.summing.Summary.{Summary}
 use Rattle.cred_generate.proofs.Told.{room_for, told_on-append, told_whole}
-use Rattle.cred_order.specs.Order.{HasRun, IsAfter, RunsOn, most_left}
-use Rattle.cred_order.proofs.Ends.{is_whole, nothing_run}
+use Rattle.cred_commands.specs.Order.{HasRun, IsAfter, RunsOn, most_left}
+use Rattle.cred_commands.proofs.Ends.{is_whole, nothing_run}
 use Rattle.cred_commands.specs.Summing.{TellsSequence}
 
 -- So many lines have run, and all their entries were told of; there are no more than there may be.

@@ -16,7 +16,7 @@ use cred_grammar::{line_count, read};
 use cred_hold::Cells;
 use cred_ids::limits;
 use cred_io::{ReadRefusal, Sink, SinkRefusal, Source, read_all};
-use cred_order::run_line;
+use crate::line::run_line;
 use cred_pen::Pen;
 use cred_said::{Status, bad_line, finish, tell_said, write_entries, write_last};
 use cred_script::Script;

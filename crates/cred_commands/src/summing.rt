@@ -9,7 +9,7 @@ use cred_generate::{Summary, generate};
 use cred_hold::Cells;
 use cred_ids::NoMemory;
 use cred_io::Sink;
-use cred_order::run_line;
+use crate::line::run_line;
 use cred_said::{Said, Status, tell_said};
 use cred_script::Script;
 use cred_state::State;

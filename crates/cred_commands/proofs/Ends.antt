@@ -6,8 +6,8 @@ use Rattle.cred_model.specs.State.{State, opening}
 use Rattle.cred_model.specs.Journal.{IsSequence}
 use Rattle.cred_model.specs.Like.{IsLike}
 use Rattle.cred_model.proofs.Likes.{like_self}
-use Rattle.cred_order.specs.Order.{BeginsSequence, IsAfter}
-use Rattle.cred_order.proofs.Order.{all_past, begins_sequence, nothing_past}
+use Rattle.cred_commands.specs.Order.{BeginsSequence, IsAfter}
+use Rattle.cred_commands.proofs.Order.{all_past, begins_sequence, nothing_past}
 
 pub nothing_run : (script : Script) (state : State) → state ≡ opening script → IsAfter script [] 0 state
 nothing_run script state is = record {

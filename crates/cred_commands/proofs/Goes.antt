@@ -23,8 +23,8 @@ use Rattle.cred_left.specs.Waiting.{waiting, waiting_in}
 use Rattle.cred_cursor.proofs.Courses.{few_left, few_wait_at}
 use Rattle.cred_left.proofs.Stages.{stage_is}
 use Rattle.cred_left.proofs.Measure.{step_falls}
-use Rattle.cred_order.specs.Order.{HasRun, IsAfter, IsPast, RunsOn, StandsAt, most_left}
-use Rattle.cred_order.proofs.Order.{begins, goes_on, line_is, line_past, next_here, of_line}
+use Rattle.cred_commands.specs.Order.{HasRun, IsAfter, IsPast, RunsOn, StandsAt, most_left}
+use Rattle.cred_commands.proofs.Order.{begins, goes_on, line_is, line_past, next_here, of_line}
 
 -- The state has come as far as the journal, in which this line has come as far as the course, and
 -- those before it have run whole and in order.

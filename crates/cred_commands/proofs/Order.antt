@@ -20,7 +20,7 @@ use Rattle.cred_cursor.proofs.Courses.{line_at-place, slice_get-none}
 use Rattle.cred_cursor.proofs.Due.{first_due_at, first_due_none}
 use Rattle.cred_left.specs.Waiting.{waiting}
 use Rattle.cred_left.proofs.Measure.{step_falls}
-use Rattle.cred_order.specs.Order.{BeginsSequence, LineHasEnded, IsPast, StandsAt}
+use Rattle.cred_commands.specs.Order.{BeginsSequence, LineHasEnded, IsPast, StandsAt}
 
 -- ---- a course and its line
 

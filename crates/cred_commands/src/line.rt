@@ -1,6 +1,6 @@
 //! One line of a run in order.
 ghost use Rattle.std.specs.Prelude.{◌≡◌, ◌<◌, ◌+◌, [], length, OnOk};
-ghost use Rattle.cred_order.specs.Order.{HasRun, RunsOn};
+ghost use Rattle.cred_commands.specs.Order.{HasRun, RunsOn};
 
 use cred_course::Course;
 use cred_event::Entry;

@@ -1,8 +1,8 @@
-use Rattle.cred_order.proofs.Goes.{Goes}
+use Rattle.cred_commands.proofs.Goes.{Goes}
 use Rattle.cred_left.specs.Waiting.{waiting}
 use Rattle.cred_cursor.specs.Cursor.{left_at}
 use Rattle.std.proofs.Common.{◌≡◌, ◌+◌, Some}
-use Rattle.cred_order.proofs.line.run_line.Given as goal
+use Rattle.cred_commands.proofs.line.run_line.Given as goal
 
 abbrev pub invariant-events : goal.invariant-events
 invariant-events l =

@@ -11,9 +11,9 @@ use Rattle.cred_tables.specs.Kept.{Words}
 use Rattle.cred_tables.specs.Out.{AreHome, AreOut}
 use Rattle.cred_tables.proofs.Outs.{IsToken}
 use Rattle.cred_model.specs.Course.{after}
-use Rattle.cred_order.proofs.Pushed.{pushed_there}
-use Rattle.cred_order.proofs.Goes.{goes_first, goes_sound, goes_by, goes_out}
-use Rattle.cred_order.proofs.line.run_line.Goals as goal
+use Rattle.cred_commands.proofs.Pushed.{pushed_there}
+use Rattle.cred_commands.proofs.Goes.{goes_first, goes_sound, goes_by, goes_out}
+use Rattle.cred_commands.proofs.line.run_line.Goals as goal
 
 pub events-init : goal.events-init
 events-init c =
