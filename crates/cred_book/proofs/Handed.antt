@@ -16,9 +16,9 @@ use Rattle.cred_model.specs.Course.{Course, event_at, event_in}
 use Rattle.cred_model.specs.Journal.{entry_of, next, replay}
 use Rattle.cred_model.specs.Named.{event_files}
 use Rattle.cred_script.specs.Lines.{line_at}
-use Rattle.cred_cursor.specs.Cursor.{MovesOnTo}
-use Rattle.cred_cursor.specs.LaneCursors.{due_of}
-use Rattle.cred_cursor.proofs.Turns.{next_some}
+use Rattle.cred_course.specs.Cursor.{MovesOnTo}
+use Rattle.cred_course.specs.LaneCursors.{due_of}
+use Rattle.cred_course.proofs.Turns.{next_some}
 use Rattle.cred_sound.proofs.Sound.{sound_after}
 use Rattle.cred_words.specs.Lists.{Has}
 use Rattle.cred_hold.specs.Tokens.{Loan, loan}

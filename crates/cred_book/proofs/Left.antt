@@ -11,12 +11,12 @@ use Rattle.cred_model.specs.Course.{Course, event_at, leads}
 use Rattle.cred_model.specs.Journal.{due_in, next_event}
 use Rattle.cred_model.proofs.Lines.{answers_of-push_other}
 use Rattle.cred_script.specs.Lanes.{lanes}
-use Rattle.cred_cursor.specs.Cursor.{IsLaneCursor}
-use Rattle.cred_cursor.specs.LaneCursors.{AreCursors, cursor_of, due_of}
-use Rattle.cred_cursor.proofs.AllLanes.{is_due, other_cursor}
-use Rattle.cred_cursor.proofs.Courses.{line_is, next_is}
-use Rattle.cred_cursor.proofs.Lanes.{lane_makes_due, lane_over}
-use Rattle.cred_cursor.proofs.Turns.{due_is}
+use Rattle.cred_course.specs.Cursor.{IsLaneCursor}
+use Rattle.cred_course.specs.LaneCursors.{AreCursors, cursor_of, due_of}
+use Rattle.cred_course.proofs.AllLanes.{is_due, other_cursor}
+use Rattle.cred_course.proofs.Courses.{line_is, next_is}
+use Rattle.cred_course.proofs.Lanes.{lane_makes_due, lane_over}
+use Rattle.cred_course.proofs.Turns.{due_is}
 use Rattle.cred_book.specs.Counts.{AreEnded, count_of, ended_of, lines_in}
 use Rattle.cred_book.specs.Cursor.{has_left}
 use Rattle.cred_book.proofs.Counts.{ended_all, ended_fewer, ended_grows, ended_others, lane_within}

@@ -15,9 +15,9 @@ use Rattle.cred_model.proofs.Journals.{replay-push}
 use Rattle.cred_names.specs.Labels.{event_labels}
 use Rattle.cred_sound.proofs.Sound.{sound_after}
 use Rattle.cred_script.specs.Lines.{line_at}
-use Rattle.cred_cursor.specs.Cursor.{MovesOnTo}
-use Rattle.cred_cursor.specs.LaneCursors.{AreCursors, due_of}
-use Rattle.cred_cursor.proofs.Turns.{lanes_go_on}
+use Rattle.cred_course.specs.Cursor.{MovesOnTo}
+use Rattle.cred_course.specs.LaneCursors.{AreCursors, due_of}
+use Rattle.cred_course.proofs.Turns.{lanes_go_on}
 use Rattle.cred_hold.specs.Tokens.{Loan}
 use Rattle.cred_work.specs.declared.lent.Lent.{Lent}
 use Rattle.cred_tables.specs.Kept.{Words}

@@ -11,9 +11,9 @@ use Rattle.cred_model.specs.FileChanges.{FixesFiles}
 use Rattle.cred_model.specs.Script.{SetupFirst}
 use Rattle.cred_model.specs.Journal.{SoFar, lane_of, next, next_in_order, replay}
 use Rattle.cred_script.specs.Lanes.{lanes}
-use Rattle.cred_cursor.specs.Cursor.{left_at}
-use Rattle.cred_cursor.specs.LaneCursors.{AreCursors}
-use Rattle.cred_left.specs.Waiting.{waiting}
+use Rattle.cred_course.specs.Cursor.{left_at}
+use Rattle.cred_course.specs.LaneCursors.{AreCursors}
+use Rattle.cred_course.specs.Waiting.{waiting}
 use Rattle.cred_tables.specs.Out.{AreSameTokens, needs_tokens}
 use Rattle.cred_work.specs.Decisions.{work_event}
 use Rattle.cred_work.specs.Work.{Work}

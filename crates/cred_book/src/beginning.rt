@@ -5,14 +5,14 @@ ghost use Rattle.cred_model.specs.FileChanges.{FixesFiles};
 ghost use Rattle.cred_model.specs.Script.{SetupFirst};
 ghost use Rattle.cred_model.specs.State.{opening};
 ghost use Rattle.cred_script.specs.Lanes.{lanes};
-ghost use Rattle.cred_cursor.specs.LaneCursors.{AreCursors};
+ghost use Rattle.cred_course.specs.LaneCursors.{AreCursors};
 ghost use Rattle.cred_book.specs.Counts.{AreEnded};
 ghost use Rattle.cred_book.specs.Works.{AreNamedApart};
 
 use crate::ended::lines_without_events;
 use crate::journal::room_for_entries;
 use crate::outs::none_out;
-use cred_cursor::Cursors;
+use cred_course::Cursors;
 use cred_event::Entry;
 use cred_hold::Cells;
 use cred_ids::NoMemory;

@@ -18,11 +18,11 @@ use Rattle.cred_model.proofs.Likes.{does_like}
 use Rattle.cred_model.proofs.Courses.{after_line}
 use Rattle.cred_sound.specs.Sound.{IsSound}
 use Rattle.cred_sound.proofs.Sound.{like_sound, sound_after}
-use Rattle.cred_cursor.specs.Cursor.{LINE_EVENTS, left_at}
-use Rattle.cred_left.specs.Waiting.{waiting, waiting_in}
-use Rattle.cred_cursor.proofs.Courses.{few_left, few_wait_at}
-use Rattle.cred_left.proofs.Stages.{stage_is}
-use Rattle.cred_left.proofs.Measure.{step_falls}
+use Rattle.cred_course.specs.Cursor.{LINE_EVENTS, left_at}
+use Rattle.cred_course.specs.Waiting.{waiting, waiting_in}
+use Rattle.cred_course.proofs.Courses.{few_left, few_wait_at}
+use Rattle.cred_course.proofs.StagesLeft.{stage_is}
+use Rattle.cred_course.proofs.Measure.{step_falls}
 use Rattle.cred_commands.specs.Order.{HasRun, IsAfter, IsPast, RunsOn, StandsAt, most_left}
 use Rattle.cred_commands.proofs.Order.{begins, goes_on, line_is, line_past, next_here, of_line}
 

@@ -15,11 +15,11 @@ use Rattle.cred_model.proofs.Courses.{after_line, makes_event}
 use Rattle.cred_model.proofs.Journals.{IsInOrder-push}
 use Rattle.cred_model.proofs.Lines.{answers_of-push_same, answers_of-push_other}
 use Rattle.cred_script.specs.Lines.{line_at}
-use Rattle.cred_cursor.specs.Cursor.{left_at}
-use Rattle.cred_cursor.proofs.Courses.{line_at-place, slice_get-none}
-use Rattle.cred_cursor.proofs.Due.{first_due_at, first_due_none}
-use Rattle.cred_left.specs.Waiting.{waiting}
-use Rattle.cred_left.proofs.Measure.{step_falls}
+use Rattle.cred_course.specs.Cursor.{left_at}
+use Rattle.cred_course.proofs.Courses.{line_at-place, slice_get-none}
+use Rattle.cred_course.proofs.Due.{first_due_at, first_due_none}
+use Rattle.cred_course.specs.Waiting.{waiting}
+use Rattle.cred_course.proofs.Measure.{step_falls}
 use Rattle.cred_commands.specs.Order.{BeginsSequence, LineHasEnded, IsPast, StandsAt}
 
 -- ---- a course and its line

@@ -7,8 +7,8 @@ use Rattle.cred_model.specs.State.{State}
 use Rattle.cred_model.specs.Like.{IsLike}
 use Rattle.cred_model.specs.Course.{Course, leads}
 use Rattle.cred_model.specs.Journal.{IsInOrder, IsSequence, answers_of, next_event, replay}
-use Rattle.cred_cursor.specs.Cursor.{LINE_EVENTS}
-use Rattle.cred_left.specs.Waiting.{waiting}
+use Rattle.cred_course.specs.Cursor.{LINE_EVENTS}
+use Rattle.cred_course.specs.Waiting.{waiting}
 
 -- the line at this place has ended
 abbrev pub LineHasEnded : Script → List Entry → ℕ → Type 0

@@ -26,9 +26,9 @@ use Rattle.cred_laws.specs.Journals.{state_at}
 use Rattle.cred_laws.proofs.States.{step_at}
 use Rattle.cred_sound.proofs.Parts.{CredsChange, SameCreds, Seals, sealed_cred}
 use Rattle.cred_sound.proofs.Events.{changes}
-use Rattle.cred_cursor.specs.Cursor.{left_at, new_waiters, new_waiters_at}
-use Rattle.cred_left.specs.Waiting.{waiting}
-use Rattle.cred_left.proofs.Measure.{step_falls}
+use Rattle.cred_course.specs.Cursor.{left_at, new_waiters, new_waiters_at}
+use Rattle.cred_course.specs.Waiting.{waiting}
+use Rattle.cred_course.proofs.Measure.{step_falls}
 use Rattle.cred_fits.specs.Fitting.{JournalsAreShort}
 
 -- ---- the line of an entry

@@ -3,7 +3,7 @@ use Rattle.std.specs.Prelude.{Contains}
 use Rattle.std.specs.Option.{option_map}
 use Rattle.cred_event.specs.declared.entry.Entry.{Entry}
 use Rattle.cred_model.proofs.Names.{event_named}
-use Rattle.cred_cursor.proofs.Courses.{line_at-place}
+use Rattle.cred_course.proofs.Courses.{line_at-place}
 use Rattle.std.proofs.lemmas.List.Elements.{All-nil}
 use Rattle.cred_names.specs.Labels.{event_labels}
 use Rattle.cred_hold.specs.Tokens as lent

@@ -1,6 +1,6 @@
 use Rattle.cred_commands.proofs.Goes.{Goes}
-use Rattle.cred_left.specs.Waiting.{waiting}
-use Rattle.cred_cursor.specs.Cursor.{left_at}
+use Rattle.cred_course.specs.Waiting.{waiting}
+use Rattle.cred_course.specs.Cursor.{left_at}
 use Rattle.std.proofs.Common.{◌≡◌, ◌+◌, Some}
 use Rattle.cred_commands.proofs.line.run_line.Given as goal
 

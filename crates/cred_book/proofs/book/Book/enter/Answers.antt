@@ -5,7 +5,7 @@ use Rattle.cred_event.specs.declared.entry.Entry.{Entry}
 use Rattle.cred_model.specs.Course as model
 use Rattle.cred_model.specs.Journal.{replay}
 use Rattle.cred_script.specs.Lines.{line_at}
-use Rattle.cred_cursor.specs.Cursor.{MovesOnTo}
+use Rattle.cred_course.specs.Cursor.{MovesOnTo}
 use Rattle.cred_tables.specs.Kept.{Words}
 use Rattle.cred_tables.specs.Out.{AreHome, AreOut}
 use Rattle.cred_tables.proofs.Outs.{out_like}

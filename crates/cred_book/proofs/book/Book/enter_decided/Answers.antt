@@ -9,7 +9,7 @@ use Rattle.cred_model.specs.Journal.{replay}
 use Rattle.cred_model.specs.Like.{GivesLike}
 use Rattle.cred_model.specs.Step.{done}
 use Rattle.cred_script.specs.Lines.{line_at}
-use Rattle.cred_cursor.specs.Cursor.{MovesOnTo}
+use Rattle.cred_course.specs.Cursor.{MovesOnTo}
 use Rattle.cred_work.specs.Decisions.{IsRight, work_event}
 use Rattle.cred_model.specs.Named.{event_files}
 use Rattle.cred_model.specs.State.{info_of}

@@ -8,9 +8,9 @@ use Rattle.cred_model.specs.Course.{Course, event_at}
 use Rattle.cred_model.specs.Journal.{replay}
 use Rattle.cred_model.specs.Named.{IsEventOf}
 use Rattle.cred_script.specs.Lines.{line_at}
-use Rattle.cred_cursor.specs.Cursor.{IsOfLine, MovesOnTo}
-use Rattle.cred_cursor.specs.LaneCursors.{due_of}
-use Rattle.cred_cursor.proofs.Turns.{lane_has_place}
+use Rattle.cred_course.specs.Cursor.{IsOfLine, MovesOnTo}
+use Rattle.cred_course.specs.LaneCursors.{due_of}
+use Rattle.cred_course.proofs.Turns.{lane_has_place}
 use Rattle.cred_work.specs.Work.{Work}
 use Rattle.cred_tables.specs.Kept.{Words}
 use Rattle.cred_tables.specs.Out.{AreHome, needs_tokens}
