@@ -11,13 +11,13 @@ ghost use Rattle.cred_said.specs.Ends.{IsForText};
 ghost use Rattle.cred_said.specs.Leaves.{IsReading, IsWriting, LeavesReport, RunsBytes};
 ghost use Rattle.cred_commands.specs.Sequences.{AppendsSequence, WritesSequenceStart, HandsOver};
 
+use crate::line::run_line;
 use cred_event::Entry;
 use cred_grammar::{line_count, read};
 use cred_hold::Cells;
 use cred_ids::limits;
 use cred_io::{ReadRefusal, Sink, SinkRefusal, Source, read_all};
-use crate::line::run_line;
-use cred_pen::Pen;
+use cred_report::Pen;
 use cred_said::{Status, bad_line, finish, tell_said, write_entries, write_last};
 use cred_script::Script;
 use cred_state::State;

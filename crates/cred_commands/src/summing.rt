@@ -5,11 +5,11 @@ ghost use Rattle.cred_said.specs.Leaves.{IsWriting};
 ghost use Rattle.cred_commands.specs.Summing.{IsCount, LeavesSummary, SaysSummary, TellsSequence};
 ghost use Rattle.cred_said.specs.Texts as spec;
 
+use crate::line::run_line;
 use cred_generate::{Summary, generate};
 use cred_hold::Cells;
 use cred_ids::NoMemory;
 use cred_io::Sink;
-use crate::line::run_line;
 use cred_said::{Said, Status, tell_said};
 use cred_script::Script;
 use cred_state::State;

@@ -7,8 +7,8 @@ ghost use Rattle.cred_ids.specs.Limits.{LAST_LANE};
 ghost use Rattle.cred_course.specs.LaneCursors.{AreCursors, AreOver, IsEarlier, IsLeast, cursor_of};
 ghost use Rattle.cred_course.specs.LaneCursors.{due_of};
 
-use crate::cursor::first_cursor;
 use crate::course::Course;
+use crate::cursor::first_cursor;
 use cred_ids::NoMemory;
 use cred_script::Script;
 use std::alloc::Global;

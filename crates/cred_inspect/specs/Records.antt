@@ -2,7 +2,7 @@
 use Rattle.std.specs.Prelude.{◌≡◌, ℕ, List, ◌++◌, codes, decimal}
 use Rattle.std.specs.declared.option.Option.{Option}
 use Rattle.hex.specs.Hex.{encode_lower}
-use Rattle.cred_pen.specs.Numbers.{set_text}
+use Rattle.cred_report.specs.Numbers.{set_text}
 use Rattle.cred_capdata.specs.Record.{SpellsData, IsCanonicalData, data_refusal_of}
 use Rattle.cred_capdata.specs.declared.data.CapData.{CapData}
 use Rattle.cred_capdata.specs.declared.refusal.DataRefusal.{DataRefusal}

@@ -9,7 +9,7 @@ use cred_captext::{TextRefusal, read_text};
 use cred_filecap::{FileCaps, encode};
 use cred_ids::NoMemory;
 use cred_io::Sink;
-use cred_pen::append_word;
+use cred_report::append_word;
 use cred_said::{Said, Status, tell_said};
 use std::alloc::Global;
 

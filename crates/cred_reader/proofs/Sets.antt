@@ -9,7 +9,7 @@ use Rattle.std.proofs.lemmas.Grind.{pow_more}
 use Rattle.std.proofs.Math.Nat.{pow-le-pow_right}
 use Rattle.std.proofs.lemmas.Bool.Decides.{nat_tests}
 use Rattle.cred_caps.specs.Caps.{IsCaps}
-use Rattle.cred_pen.specs.Numbers.{hexadecimal}
+use Rattle.cred_report.specs.Numbers.{hexadecimal}
 use Rattle.cred_spelling.specs.Spellings.{set_of}
 use Rattle.cred_reader.proofs.Words.{is_inner, is_plain}
 

@@ -6,10 +6,11 @@ ghost use Rattle.cred_report.specs.Room.{EVENT, BEFORE_EVENT};
 
 use crate::calls::{prepend_call, prepend_change};
 use crate::file_events::{prepend_chmod, prepend_chown, prepend_set_attr, prepend_stat};
+use crate::pen::Pen;
 use crate::questions::{prepend_file, prepend_letters, prepend_query};
+use crate::words::{prepend_label, prepend_number, prepend_three, prepend_two, prepend_word};
 use cred_event::{Change, Event, Mode, Query, Side};
 use cred_ids::{Id, NoMemory};
-use cred_pen::{Pen, prepend_label, prepend_number, prepend_three, prepend_two, prepend_word};
 use cred_record::{IdCall, Want};
 use cred_script::Script;
 
