@@ -21,18 +21,18 @@ use Rattle.cred_spelling.specs.declared.reason.Reason.TheVariants.{Word}
 use Rattle.cred_spelling.specs.Names as names
 use Rattle.cred_spelling.specs.Spellings as spelling
 use Rattle.cred_spelling.specs.Words.{word_of, name_of, no_words, one_of, two_of, three_of, five_of}
-use Rattle.cred_forms.specs.declared.forms.Parsed.{Parsed}
-use Rattle.cred_forms.specs.declared.forms.Parsed.TheVariants.{Empty, File, Starts, Lane, Holds}
-use Rattle.cred_forms.specs.declared.forms.Parsed.TheVariants as parsed
-use Rattle.cred_forms.specs.Changes.{change_of}
-use Rattle.cred_forms.specs.Files as files
-use Rattle.cred_forms.specs.IdCalls.{id_call_of}
-use Rattle.cred_forms.specs.Modes.{look_mode}
-use Rattle.cred_forms.specs.Questions.{query_of, query_named, file_and_want}
-use Rattle.cred_forms.specs.Calls as calls
-use Rattle.cred_forms.specs.Records.{record_of}
-use Rattle.cred_forms.specs.FileCalls as file_calls
-use Rattle.cred_forms.specs.Forms as forms
+use Rattle.cred_grammar.specs.declared.forms.Parsed.{Parsed}
+use Rattle.cred_grammar.specs.declared.forms.Parsed.TheVariants.{Empty, File, Starts, Lane, Holds}
+use Rattle.cred_grammar.specs.declared.forms.Parsed.TheVariants as parsed
+use Rattle.cred_grammar.specs.Changes.{change_of}
+use Rattle.cred_grammar.specs.Files as files
+use Rattle.cred_grammar.specs.IdCalls.{id_call_of}
+use Rattle.cred_grammar.specs.Modes.{look_mode}
+use Rattle.cred_grammar.specs.Questions.{query_of, query_named, file_and_want}
+use Rattle.cred_grammar.specs.Calls as calls
+use Rattle.cred_grammar.specs.Records.{record_of}
+use Rattle.cred_grammar.specs.FileCalls as file_calls
+use Rattle.cred_grammar.specs.Forms as forms
 use Rattle.cred_reader.specs.Fits.{IsNumber, IsWant, IsNamespace, FitsCall, FitsChange, FitsQuery, FitsFileCall, FitsEvent}
 use Rattle.cred_reader.proofs.Spelled as spelled
 use Rattle.cred_reader.proofs.Spelled.{HoldsSome, OfAll, then_holds, word_holds, one_holds, two_holds, three_holds, five_holds, any_holds}

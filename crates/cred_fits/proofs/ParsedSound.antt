@@ -6,9 +6,9 @@ use Rattle.cred_spelling.specs.declared.reason.Reason.TheVariants.{Word, Byte}
 use Rattle.cred_spelling.specs.Lines.{is_printable}
 use Rattle.cred_spelling.specs.Names.{form_of}
 use Rattle.cred_spelling.specs.Words.{line_words, is_comment}
-use Rattle.cred_forms.specs.declared.forms.Parsed.{Parsed}
-use Rattle.cred_forms.specs.declared.forms.Parsed.TheVariants.{Empty}
-use Rattle.cred_forms.specs.Forms.{parse_form}
+use Rattle.cred_grammar.specs.declared.forms.Parsed.{Parsed}
+use Rattle.cred_grammar.specs.declared.forms.Parsed.TheVariants.{Empty}
+use Rattle.cred_grammar.specs.Forms.{parse_form}
 use Rattle.cred_grammar.specs.Grammar.{parse_full, parse_words, parse_line}
 use Rattle.cred_grammar.specs.Reading.{Reading, admits}
 use Rattle.cred_grammar.specs.Sound.{IsParsed}

@@ -17,11 +17,11 @@ use Rattle.cred_spelling.specs.Lines.{lines_of, is_printable}
 use Rattle.cred_spelling.specs.Names.{form_of}
 use Rattle.cred_spelling.specs.Spellings.{is_name}
 use Rattle.cred_spelling.specs.Words.{line_words, is_comment}
-use Rattle.cred_forms.specs.declared.forms.Parsed.{Parsed}
-use Rattle.cred_forms.specs.declared.forms.Parsed.TheVariants.{Empty, File, Starts, Lane, Holds}
-use Rattle.cred_forms.specs.declared.forms.Parsed.TheVariants as parsed
+use Rattle.cred_grammar.specs.declared.forms.Parsed.{Parsed}
+use Rattle.cred_grammar.specs.declared.forms.Parsed.TheVariants.{Empty, File, Starts, Lane, Holds}
+use Rattle.cred_grammar.specs.declared.forms.Parsed.TheVariants as parsed
 use Rattle.cred_script.specs.Files.{file_place}
-use Rattle.cred_forms.specs.Forms.{parse_form}
+use Rattle.cred_grammar.specs.Forms.{parse_form}
 use Rattle.cred_grammar.specs.Grammar.{parse_full, parse_words, parse_line, add_line, at_line, add_lines, script_of}
 use Rattle.cred_grammar.specs.Reading.{Reading, nothing, admits, keep}
 use Rattle.cred_grammar.specs.Reading as reading_of

@@ -8,11 +8,11 @@ use Rattle.cred_spelling.specs.declared.reason.Reason.{Reason}
 use Rattle.cred_spelling.specs.Lines.{lines_of}
 use Rattle.cred_spelling.specs.Words.{two_of, three_of, five_of}
 use Rattle.cred_spelling.specs.Names.{forms, id_names, change_names, query_names}
-use Rattle.cred_forms.specs.IdCalls.{id_call_of}
-use Rattle.cred_forms.specs.Changes.{change_of}
-use Rattle.cred_forms.specs.Questions.{query_of}
-use Rattle.cred_forms.specs.Calls.{content_of, call_of}
-use Rattle.cred_forms.specs.Forms.{parse_form}
+use Rattle.cred_grammar.specs.IdCalls.{id_call_of}
+use Rattle.cred_grammar.specs.Changes.{change_of}
+use Rattle.cred_grammar.specs.Questions.{query_of}
+use Rattle.cred_grammar.specs.Calls.{content_of, call_of}
+use Rattle.cred_grammar.specs.Forms.{parse_form}
 use Rattle.cred_grammar.specs.Reading.{Reading, nothing, script}
 use Rattle.cred_grammar.specs.Grammar.{parse_full, add_line, add_lines, script_of}
 use Rattle.cred_generate.specs.Generated.{FIRST, call_by, call, generated, text_of}

@@ -8,7 +8,7 @@ use Rattle.cred_grammar.specs.declared.refusal.ScriptRefusal.{ScriptRefusal}
 use Rattle.cred_grammar.specs.declared.refusal.ScriptRefusal.TheVariants.{Bad, Memory}
 use Rattle.cred_grammar.specs.Grammar.{at_line, add_line, add_lines}
 use Rattle.cred_grammar.specs.Reading.{Reading, nothing, script}
-use Rattle.cred_grammar.specs.Read.{ReadsAs}
+use Rattle.cred_grammar.specs.ReadAnswers.{ReadsAs}
 use Rattle.cred_grammar.specs.FirstBad.{IsFirstBad, ReportsFirstBad}
 use Rattle.cred_grammar.proofs.Steps.{longer}
 

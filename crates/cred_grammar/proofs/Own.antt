@@ -36,20 +36,20 @@ use Rattle.cred_spelling.specs.Spellings.{letter, number_of, within, id_of, cap_
 use Rattle.cred_spelling.specs.Spellings.{spelled_task, spelled_process, descriptor_of, line_number_of}
 use Rattle.cred_spelling.specs.Spellings.{lane_number_of, namespace_of, new_namespace_of, parent_of}
 use Rattle.cred_spelling.specs.Words.{word_of, no_words, one_of, two_of, three_of, five_of}
-use Rattle.cred_forms.specs.declared.forms.Parsed.{Parsed}
-use Rattle.cred_forms.specs.declared.forms.Parsed.TheVariants.{Empty, File, Starts, Lane, Holds}
-use Rattle.cred_forms.specs.declared.forms.Parsed.TheVariants as parsed
-use Rattle.cred_forms.specs.Changes.{change_of}
+use Rattle.cred_grammar.specs.declared.forms.Parsed.{Parsed}
+use Rattle.cred_grammar.specs.declared.forms.Parsed.TheVariants.{Empty, File, Starts, Lane, Holds}
+use Rattle.cred_grammar.specs.declared.forms.Parsed.TheVariants as parsed
+use Rattle.cred_grammar.specs.Changes.{change_of}
 use Rattle.cred_script.specs.Files.{file_place}
-use Rattle.cred_forms.specs.Files.{has_room, file_at, file_of}
-use Rattle.cred_forms.specs.FileCalls.{chown_of, chmod_of, set_attr_of, file_alone, file_call_of}
-use Rattle.cred_forms.specs.Records.{record_of}
-use Rattle.cred_forms.specs.IdCalls.{id_call_of}
-use Rattle.cred_forms.specs.Modes.{look_mode}
-use Rattle.cred_forms.specs.Questions.{query_of, query_named, file_and_want}
-use Rattle.cred_forms.specs.Calls.{open_call, capset_raw_of, raw_of, other_of, call_of, content_of}
-use Rattle.cred_forms.specs.Forms.{take_of, take_file_of, ask_of, alter_of, override_of, begin_of, event_of, parse_form}
-use Rattle.cred_forms.proofs.ModeWords.{mode_is}
+use Rattle.cred_grammar.specs.Files.{has_room, file_at, file_of}
+use Rattle.cred_grammar.specs.FileCalls.{chown_of, chmod_of, set_attr_of, file_alone, file_call_of}
+use Rattle.cred_grammar.specs.Records.{record_of}
+use Rattle.cred_grammar.specs.IdCalls.{id_call_of}
+use Rattle.cred_grammar.specs.Modes.{look_mode}
+use Rattle.cred_grammar.specs.Questions.{query_of, query_named, file_and_want}
+use Rattle.cred_grammar.specs.Calls.{open_call, capset_raw_of, raw_of, other_of, call_of, content_of}
+use Rattle.cred_grammar.specs.Forms.{take_of, take_file_of, ask_of, alter_of, override_of, begin_of, event_of, parse_form}
+use Rattle.cred_grammar.proofs.ModeWords.{mode_is}
 use Rattle.cred_script.specs.Acting.{event_actor, actor}
 use Rattle.cred_names.specs.Labels.{event_labels, labels}
 use Rattle.cred_names.specs.Owners.{may_name}

@@ -7,9 +7,9 @@ use Rattle.cred_spelling.specs.declared.reason.Reason.TheVariants.{Byte, Word}
 use Rattle.cred_spelling.specs.Lines.{lines_of, is_printable}
 use Rattle.cred_spelling.specs.Names.{form_of}
 use Rattle.cred_spelling.specs.Words.{line_words, is_comment}
-use Rattle.cred_forms.specs.declared.forms.Parsed.{Parsed}
-use Rattle.cred_forms.specs.declared.forms.Parsed.TheVariants.{Empty}
-use Rattle.cred_forms.specs.Forms.{parse_form}
+use Rattle.cred_grammar.specs.declared.forms.Parsed.{Parsed}
+use Rattle.cred_grammar.specs.declared.forms.Parsed.TheVariants.{Empty}
+use Rattle.cred_grammar.specs.Forms.{parse_form}
 use Rattle.cred_grammar.specs.Reading.{Reading, nothing, script, admits, keep}
 use Rattle.cred_ids.specs.Tests.{◌>>=◌}
 

@@ -5,7 +5,7 @@ ghost use Rattle.cred_model.specs.Script.{SetupFirst};
 ghost use Rattle.cred_spelling.specs.Lines.{lines_of};
 ghost use Rattle.cred_grammar.specs.FirstBad.{ReportsFirstBad};
 ghost use Rattle.cred_grammar.specs.Grammar.{script_of};
-ghost use Rattle.cred_grammar.specs.Read.{ReadsAs};
+ghost use Rattle.cred_grammar.specs.ReadAnswers.{ReadsAs};
 
 use crate::reading::Reading;
 use crate::refusal::ScriptRefusal;

@@ -11,7 +11,7 @@ use Rattle.cred_spelling.specs.declared.reason.Reason.{Reason}
 use Rattle.cred_spelling.specs.declared.reason.Reason.TheVariants.{Word}
 use Rattle.cred_spelling.specs.Spellings as spelling
 use Rattle.cred_spelling.specs.Words.{word_of, one_of, two_of, three_of, five_of}
-use Rattle.cred_forms.specs.IdCalls.{ids}
+use Rattle.cred_grammar.specs.IdCalls.{ids}
 use Rattle.cred_reader.specs.declared.answers.Tells.{Tells}
 use Rattle.cred_reader.specs.declared.answers.Tells.TheVariants.{Nothing, Ids, Caps, Groups, Bits, Flag, File}
 use Rattle.cred_reader.specs.Answers as spec

@@ -14,8 +14,8 @@ use Rattle.cred_event.specs.declared.event.Event.TheVariants as event
 use Rattle.cred_model.specs.Named.{query_files, change_files, event_files}
 use Rattle.cred_model.specs.Script.{Script}
 use Rattle.cred_spelling.specs.Words as words
-use Rattle.cred_forms.specs.FileCalls as file_calls
-use Rattle.cred_forms.specs.Modes as modes
+use Rattle.cred_grammar.specs.FileCalls as file_calls
+use Rattle.cred_grammar.specs.Modes as modes
 use Rattle.cred_report.specs.Questions.{file_text, want_text}
 use Rattle.cred_report.specs.Events.{event_text}
 use Rattle.cred_reader.specs.Events as spec

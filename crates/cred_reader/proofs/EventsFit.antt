@@ -26,12 +26,12 @@ use Rattle.cred_spelling.specs.declared.names.FileCallName.TheVariants as file_c
 use Rattle.cred_spelling.specs.Names as names
 use Rattle.cred_spelling.specs.Spellings as spelling
 use Rattle.cred_spelling.specs.Words.{word_of, no_words, bare, one_of, two_of, three_of, five_of}
-use Rattle.cred_forms.specs.Modes.{look_mode}
-use Rattle.cred_forms.specs.Changes as changes
-use Rattle.cred_forms.specs.FileCalls as file_calls
-use Rattle.cred_forms.specs.Files.{file_at}
-use Rattle.cred_forms.specs.IdCalls as calls
-use Rattle.cred_forms.specs.Questions as questions
+use Rattle.cred_grammar.specs.Modes.{look_mode}
+use Rattle.cred_grammar.specs.Changes as changes
+use Rattle.cred_grammar.specs.FileCalls as file_calls
+use Rattle.cred_grammar.specs.Files.{file_at}
+use Rattle.cred_grammar.specs.IdCalls as calls
+use Rattle.cred_grammar.specs.Questions as questions
 use Rattle.cred_reader.specs.declared.names.EventName.{EventName}
 use Rattle.cred_reader.specs.declared.names.EventName.TheVariants as name
 use Rattle.cred_reader.specs.declared.names.LabelEvent.{LabelEvent}

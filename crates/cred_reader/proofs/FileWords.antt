@@ -11,7 +11,7 @@ use Rattle.hex.proofs.HexLemmas.{decode_of-ok}
 use Rattle.cred_record.specs.File.{IsMode}
 use Rattle.cred_spelling.specs.Spellings as spelling
 use Rattle.cred_spelling.specs.Spellings.{without_0x}
-use Rattle.cred_forms.proofs.ModeWords.{mode_is}
+use Rattle.cred_grammar.proofs.ModeWords.{mode_is}
 use Rattle.cred_reader.specs.Fits.{AreBytes}
 use Rattle.cred_reader.proofs.Spelled.{HoldsSome, OfAll}
 

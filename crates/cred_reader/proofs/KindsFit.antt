@@ -11,7 +11,7 @@ use Rattle.cred_caps.specs.Caps.{IsCaps}
 use Rattle.cred_spelling.specs.Spellings as spelling
 use Rattle.cred_spelling.specs.Table.{named}
 use Rattle.cred_spelling.specs.Words.{word_of}
-use Rattle.cred_forms.specs.IdCalls.{ids}
+use Rattle.cred_grammar.specs.IdCalls.{ids}
 use Rattle.cred_reader.specs.Fits.{IsNumber, IsLong, IsArg, IsNamespace, IsWant}
 use Rattle.cred_reader.specs.Kinds as kinds
 use Rattle.cred_reader.proofs.Spelled.{Holds, HoldsSome, OfAll, then_holds, word_holds}

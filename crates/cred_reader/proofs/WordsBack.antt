@@ -9,7 +9,7 @@ use Rattle.cred_ids.specs.declared.arg.Arg.TheVariants.{Keep, Set}
 use Rattle.cred_record.specs.declared.want.Want.{Want}
 use Rattle.cred_model.specs.Script.{Script}
 use Rattle.cred_spelling.specs.Spellings as spelling
-use Rattle.cred_forms.specs.Files.{file_at}
+use Rattle.cred_grammar.specs.Files.{file_at}
 use Rattle.cred_report.specs.Numbers.{arg_text}
 use Rattle.cred_report.specs.Questions.{file_text, want_text}
 use Rattle.cred_reader.specs.Fits.{IsArg, IsWant, IsFile, IsNamespace, IsNumber}

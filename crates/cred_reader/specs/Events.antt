@@ -17,12 +17,12 @@ use Rattle.cred_spelling.specs.Names.{id_name, altered_name}
 use Rattle.cred_spelling.specs.Spellings.{id_of, number_of, namespace_of, want_of}
 use Rattle.cred_spelling.specs.Table.{named}
 use Rattle.cred_spelling.specs.Words.{word_of, no_words, one_of, two_of, three_of, five_of}
-use Rattle.cred_forms.specs.Changes.{change_of}
-use Rattle.cred_forms.specs.FileCalls.{file_call_of}
-use Rattle.cred_forms.specs.Modes.{look_mode}
-use Rattle.cred_forms.specs.Files.{file_at}
-use Rattle.cred_forms.specs.Questions.{query_named}
-use Rattle.cred_forms.specs.IdCalls.{id_call_of}
+use Rattle.cred_grammar.specs.Changes.{change_of}
+use Rattle.cred_grammar.specs.FileCalls.{file_call_of}
+use Rattle.cred_grammar.specs.Modes.{look_mode}
+use Rattle.cred_grammar.specs.Files.{file_at}
+use Rattle.cred_grammar.specs.Questions.{query_named}
+use Rattle.cred_grammar.specs.IdCalls.{id_call_of}
 use Rattle.cred_reader.specs.declared.names.EventName.{EventName}
 use Rattle.cred_reader.specs.declared.names.EventName.TheVariants as name
 use Rattle.cred_reader.specs.declared.names.LabelEvent.{LabelEvent}

@@ -9,7 +9,7 @@ use Rattle.cred_spelling.specs.declared.reason.Reason.{Reason}
 use Rattle.cred_spelling.specs.declared.reason.Reason.TheVariants.{Count}
 use Rattle.cred_spelling.specs.Spellings.{arg_of, bytes_of, mode_of}
 use Rattle.cred_spelling.specs.Words.{word_of, two_of}
-use Rattle.cred_forms.specs.Files.{file_at}
+use Rattle.cred_grammar.specs.Files.{file_at}
 use Rattle.cred_ids.specs.Tests.{◌>>=◌}
 
 -- `chown NAME ARG ARG`: the owner and the group

@@ -1,6 +1,6 @@
 //! The questions of a line, and what is wanted of a file.
 ghost use Rattle.cred_spelling.specs.Read.{Says, nows};
-ghost use Rattle.cred_forms.specs.Questions as spec;
+ghost use Rattle.cred_grammar.specs.Questions as spec;
 
 use crate::named::file_at;
 use cred_event::Query;

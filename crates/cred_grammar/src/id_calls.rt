@@ -1,7 +1,7 @@
 //! The id calls of a line: their arguments.
 ghost use Rattle.cred_spelling.specs.Read.{nows};
-ghost use Rattle.cred_forms.specs.IdCalls as spec;
-ghost use Rattle.cred_forms.specs.Read.{GivesLine};
+ghost use Rattle.cred_grammar.specs.IdCalls as spec;
+ghost use Rattle.cred_grammar.specs.ReadAnswers.{GivesLine};
 
 use crate::refusal::LineRefusal;
 use cred_ids::{Arg, Id};

@@ -1,6 +1,6 @@
 //! A word that is a record of capset(2), in hexadecimal digits.
-ghost use Rattle.cred_forms.specs.Records as spec;
-ghost use Rattle.cred_forms.specs.Read.{GivesLine};
+ghost use Rattle.cred_grammar.specs.Records as spec;
+ghost use Rattle.cred_grammar.specs.ReadAnswers.{GivesLine};
 ghost use Rattle.cred_spelling.specs.Words.{word_of};
 
 use crate::refusal::LineRefusal;

@@ -1,7 +1,7 @@
 //! The calls on a file that a line names: their arguments.
 ghost use Rattle.cred_spelling.specs.Read.{Says, nows};
-ghost use Rattle.cred_forms.specs.FileCalls as spec;
-ghost use Rattle.cred_forms.specs.Read.{GivesLine};
+ghost use Rattle.cred_grammar.specs.FileCalls as spec;
+ghost use Rattle.cred_grammar.specs.ReadAnswers.{GivesLine};
 
 use crate::named::file_at;
 use crate::refusal::LineRefusal;

@@ -10,7 +10,7 @@ use Rattle.cred_spelling.specs.declared.reason.Reason.{Reason}
 use Rattle.cred_spelling.specs.declared.reason.Reason.TheVariants.{Count}
 use Rattle.cred_spelling.specs.Words.{bare, one_of, three_of}
 use Rattle.cred_spelling.specs.Spellings.{number_of, arg_of, cap_of, set_of}
-use Rattle.cred_forms.specs.Files.{file_at}
+use Rattle.cred_grammar.specs.Files.{file_at}
 use Rattle.cred_ids.specs.Tests.{◌>>=◌}
 
 -- `exec NAME`

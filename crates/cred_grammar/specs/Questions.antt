@@ -11,7 +11,7 @@ use Rattle.cred_spelling.specs.declared.reason.Reason.TheVariants.{Word, Count}
 use Rattle.cred_spelling.specs.Names as names
 use Rattle.cred_spelling.specs.Spellings.{cap_of, want_of}
 use Rattle.cred_spelling.specs.Words.{word_of, bare, one_of}
-use Rattle.cred_forms.specs.Files.{file_at}
+use Rattle.cred_grammar.specs.Files.{file_at}
 use Rattle.cred_ids.specs.Tests.{◌>>=◌}
 
 -- `NAME WANT`: a file, by its place, and what is wanted of it

@@ -1,6 +1,6 @@
 //! The changes of a credential that a line names: their arguments.
 ghost use Rattle.cred_spelling.specs.Read.{Says, nows};
-ghost use Rattle.cred_forms.specs.Changes as spec;
+ghost use Rattle.cred_grammar.specs.Changes as spec;
 
 use crate::named::file_at;
 use cred_caps::CapSet;

@@ -1,7 +1,7 @@
 use Rattle.std.proofs.Common.{arith}
 use Rattle.std.proofs.lemmas.Grind.{common_steps}
-use Rattle.cred_forms.specs.Files.{file_of}
-use Rattle.cred_forms.proofs.file_line.file_of.Goals as goal
+use Rattle.cred_grammar.specs.Files.{file_of}
+use Rattle.cred_grammar.proofs.file_line.file_of.Goals as goal
 
 pub returns : goal.returns
 unfolding file_of

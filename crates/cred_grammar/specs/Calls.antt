@@ -20,12 +20,12 @@ use Rattle.cred_spelling.specs.Names as names
 use Rattle.cred_spelling.specs.Spellings.{number_of, cap_of, spelled_task, spelled_process}
 use Rattle.cred_spelling.specs.Spellings.{descriptor_of}
 use Rattle.cred_spelling.specs.Words.{word_of, bare, one_of, two_of}
-use Rattle.cred_forms.specs.IdCalls.{id_call_of}
-use Rattle.cred_forms.specs.Changes.{change_of}
-use Rattle.cred_forms.specs.Questions.{file_and_want, query_of}
-use Rattle.cred_forms.specs.Modes.{look_mode}
-use Rattle.cred_forms.specs.FileCalls.{file_call_of}
-use Rattle.cred_forms.specs.Records.{record_of}
+use Rattle.cred_grammar.specs.IdCalls.{id_call_of}
+use Rattle.cred_grammar.specs.Changes.{change_of}
+use Rattle.cred_grammar.specs.Questions.{file_and_want, query_of}
+use Rattle.cred_grammar.specs.Modes.{look_mode}
+use Rattle.cred_grammar.specs.FileCalls.{file_call_of}
+use Rattle.cred_grammar.specs.Records.{record_of}
 use Rattle.cred_ids.specs.Tests.{◌>>=◌}
 
 -- `open NAME WANT F`

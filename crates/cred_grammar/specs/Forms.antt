@@ -22,15 +22,15 @@ use Rattle.cred_spelling.specs.Spellings.{descriptor_of}
 use Rattle.cred_spelling.specs.Spellings.{line_number_of, lane_number_of, namespace_of}
 use Rattle.cred_spelling.specs.Spellings.{new_namespace_of, parent_of}
 use Rattle.cred_spelling.specs.Words.{word_of, no_words, one_of, two_of, three_of, five_of}
-use Rattle.cred_forms.specs.declared.forms.Parsed.{Parsed}
-use Rattle.cred_forms.specs.declared.forms.Parsed.TheVariants.{File, Namespace}
-use Rattle.cred_forms.specs.declared.forms.Parsed.TheVariants.{Starts, Lane, Holds}
+use Rattle.cred_grammar.specs.declared.forms.Parsed.{Parsed}
+use Rattle.cred_grammar.specs.declared.forms.Parsed.TheVariants.{File, Namespace}
+use Rattle.cred_grammar.specs.declared.forms.Parsed.TheVariants.{Starts, Lane, Holds}
 use Rattle.cred_script.specs.Acting.{event_actor}
-use Rattle.cred_forms.specs.Files.{file_of}
-use Rattle.cred_forms.specs.IdCalls.{id_call_of}
-use Rattle.cred_forms.specs.Changes.{change_of}
-use Rattle.cred_forms.specs.Questions.{query_named}
-use Rattle.cred_forms.specs.Calls.{content_of}
+use Rattle.cred_grammar.specs.Files.{file_of}
+use Rattle.cred_grammar.specs.IdCalls.{id_call_of}
+use Rattle.cred_grammar.specs.Changes.{change_of}
+use Rattle.cred_grammar.specs.Questions.{query_named}
+use Rattle.cred_grammar.specs.Calls.{content_of}
 use Rattle.cred_ids.specs.Tests.{◌>>=◌}
 
 -- `take H T` and `takereal H T`

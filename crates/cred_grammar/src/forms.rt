@@ -2,8 +2,8 @@
 //! the words that stand after the one that names the form. Their number is asked before what they
 //! spell.
 ghost use Rattle.cred_spelling.specs.Read.{nows};
-ghost use Rattle.cred_forms.specs.Forms as spec;
-ghost use Rattle.cred_forms.specs.Read.{GivesLine};
+ghost use Rattle.cred_grammar.specs.Forms as spec;
+ghost use Rattle.cred_grammar.specs.ReadAnswers.{GivesLine};
 
 use crate::calls::content_of;
 use crate::changes::change_of;

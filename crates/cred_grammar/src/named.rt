@@ -1,6 +1,6 @@
 //! The file that a word names.
 ghost use Rattle.cred_spelling.specs.Read.{Says};
-ghost use Rattle.cred_forms.specs.Files as spec;
+ghost use Rattle.cred_grammar.specs.Files as spec;
 
 use cred_script::Files;
 use cred_spelling::{Reason, name_of};

@@ -1,7 +1,7 @@
 //! The lines that declare files.
 ghost use Rattle.cred_spelling.specs.Read.{nows};
-ghost use Rattle.cred_forms.specs.Files as spec;
-ghost use Rattle.cred_forms.specs.Read.{GivesLine};
+ghost use Rattle.cred_grammar.specs.Files as spec;
+ghost use Rattle.cred_grammar.specs.ReadAnswers.{GivesLine};
 
 use crate::refusal::LineRefusal;
 use cred_ids::{Id, limits};

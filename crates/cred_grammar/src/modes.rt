@@ -1,5 +1,5 @@
 //! How a task asks to look into another.
-ghost use Rattle.cred_forms.specs.Modes as spec;
+ghost use Rattle.cred_grammar.specs.Modes as spec;
 
 use cred_event::Mode;
 use cred_spelling::{Spelling, named};

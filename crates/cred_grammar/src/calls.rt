@@ -1,8 +1,8 @@
 //! What a task does on a line of its own. Each function takes the words that stand after the one
 //! that names the call.
 ghost use Rattle.cred_spelling.specs.Read.{Says, nows};
-ghost use Rattle.cred_forms.specs.Calls as spec;
-ghost use Rattle.cred_forms.specs.Read.{GivesLine};
+ghost use Rattle.cred_grammar.specs.Calls as spec;
+ghost use Rattle.cred_grammar.specs.ReadAnswers.{GivesLine};
 
 use crate::changes::change_of;
 use crate::file_calls::file_call_of;
