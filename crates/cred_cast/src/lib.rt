@@ -1,5 +1,5 @@
-//! The open broadcasts: which threads of a process still have to make a call that another thread
-//! of theirs has made (nptl(7)).
+//! The open broadcasts: the id call that every thread of a process makes (nptl(7)), and who still
+//! has to.
 #![tactic(auto)]
 
 mod broadcast;

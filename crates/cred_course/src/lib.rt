@@ -9,8 +9,8 @@
 //! neither state nor journal.
 //!
 //! `specs/Waiting` and `proofs/Measure` say how many steps a run may have left, at most. Fewer are
-//! left after each event that is entered, also where tasks begin to wait by it. So the book's lanes,
-//! a run in order and the laws of what fits a script have an end.
+//! left after each event that is entered, also where tasks begin to wait by it. So the book's
+//! lanes, a run in order and the laws of what fits a script have an end.
 #![tactic(auto)]
 
 mod course;

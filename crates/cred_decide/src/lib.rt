@@ -1,5 +1,6 @@
-//! What is decided on one credential: the answer to a question about it, and what a change makes
-//! of it. A decision sees the credential and the file that it names, and no task, label or slot.
+//! What is decided on one credential: the answer to a question, and what a change makes of it.
+//!
+//! A decision sees the credential and the file that it names, and no task, label or slot.
 #![tactic(auto)]
 
 mod changes;

@@ -1,5 +1,4 @@
-//! The lanes of a script as threads: a worker for each lane, and the run from a script to its
-//! journal.
+//! The lanes of a script as threads: a worker for each lane, and the journal that they make.
 //!
 //! A worker makes the events of its lane, one after another, until the lane has ended. Each is made
 //! under the kernel's lock, which the worker releases after one event, and later, when its lane has

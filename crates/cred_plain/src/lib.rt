@@ -1,6 +1,7 @@
-//! The tables of the value machine: credentials by number, tasks, labels, broadcasts, open files,
-//! and what refers to what. They are plain lists: what is looked for in one is found by going
-//! through it, and nothing is counted.
+//! The tables of `cred_machine`: plain lists that are searched, with no count. Read it as part of
+//! it.
+//!
+//! They have credentials by number, tasks, labels, broadcasts, open files, and what refers to what.
 #![tactic(auto)]
 
 pub mod casts;

@@ -1,7 +1,7 @@
-//! The tables that the state of a run is made of, beside those of tasks, broadcasts and open files:
-//! the holds and the prepared labels, and where the sealed credentials stand in the shared words.
-//! Where one call changes several of them, or the tasks together with the broadcasts or with the
-//! flags of the processes, it stands here too.
+//! The tables of holds and of prepared labels, and what changes several tables of the state at
+//! once. Read it as part of `cred_state`.
+//!
+//! It says too where the sealed credentials stand in the shared words.
 #![tactic(auto)]
 
 mod casts;
