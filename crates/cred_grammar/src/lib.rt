@@ -19,7 +19,6 @@ mod calls;
 mod changes;
 mod file_calls;
 mod file_line;
-mod form_refusal;
 mod forms;
 mod id_calls;
 mod modes;

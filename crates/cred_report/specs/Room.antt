@@ -1,5 +1,5 @@
--- How many bytes numbers, ids, sets and flags take at most, and the parts of an entry, but for names
--- of files and lists of ids. A word counts with the spaces that stand in it.
+-- How many bytes numbers, ids, sets and flags take at most, and the parts of an entry, but for
+-- names of files and lists of ids. A word counts with the spaces that stand in it.
 use Rattle.std.specs.Prelude.{ℕ, ◌+◌, ◌*◌}
 
 -- ---- numbers, ids, sets and flags
