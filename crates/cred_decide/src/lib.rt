@@ -6,5 +6,5 @@
 mod changes;
 mod replies;
 
-pub use changes::{Made, change};
+pub use changes::{Made, change, committed_by};
 pub use replies::reply;

@@ -19,7 +19,8 @@ use Rattle.cred_event.specs.declared.answer.Answer.TheVariants as answer
 use Rattle.cred_event.specs.declared.answer.AbortCause.TheVariants as cause
 use Rattle.cred_event.specs.declared.event.Event.{Event}
 use Rattle.cred_event.specs.declared.event.Event.TheVariants as event
-use Rattle.cred_model.specs.Answers.{is_ok, checked}
+use Rattle.cred_event.specs.Answers.{is_ok}
+use Rattle.cred_model.specs.Answers.{checked}
 use Rattle.cred_model.specs.Casts.{others_of, with_cast, waits_no_more, is_open}
 use Rattle.cred_model.specs.Change.{by_rule}
 use Rattle.cred_model.specs.Dumpable.{differs, renewed}

@@ -19,7 +19,7 @@ use Rattle.cred_event.specs.declared.event.Change.{Change}
 use Rattle.cred_event.specs.declared.event.Change.TheVariants.{SetFs, Adjust, Exec}
 use Rattle.cred_event.specs.declared.event.Event.{Event}
 use Rattle.cred_event.specs.declared.event.Event.TheVariants.{Alter}
-use Rattle.cred_model.specs.Answers.{is_ok}
+use Rattle.cred_event.specs.Answers.{is_ok}
 use Rattle.cred_model.specs.Change.{Made, by_change, made_by_rule, made_by_exec}
 use Rattle.cred_model.specs.Moves.{relabelled, altered}
 use Rattle.cred_model.specs.Named.{change_files}

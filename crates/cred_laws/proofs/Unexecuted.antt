@@ -24,6 +24,7 @@ use Rattle.cred_event.specs.declared.event.Query.{Query}
 use Rattle.cred_event.specs.declared.event.Query.TheVariants.{Ids, Caps, Groups, Bits, Capable, Bset, AmbIs, Check}
 use Rattle.cred_event.specs.declared.event.Event.{Event}
 use Rattle.cred_event.specs.declared.event.Event.TheVariants.{Init, Take, TakeFile, Release, Ask, Signal, Prepare, Alter, Commit, Abort, Override, Revert, Begin, Act, OpenFile, CloseFile, Spawn, Fork, Exit, Sweep, Dumpable, Dumped, Ptrace, Chown, Chmod, SetAttr, Stat, Raw}
+use Rattle.cred_event.specs.Answers.{is_ok}
 use Rattle.cred_model.specs.Script.{Script, chain_of, root_of, reaches}
 use Rattle.cred_model.specs.Named.{change_files}
 use Rattle.cred_model.specs.State.{State, Broadcast, Task, Numbered, numbered, task_of, cast_of, cast_in, begun_by, open_of, hold_of, prepared_of, credential_of, opener_of, held_by, info_of}
@@ -32,7 +33,7 @@ use Rattle.cred_model.specs.Ends.{is_thread_of}
 use Rattle.cred_model.specs.Slots.{free, swept_if_full}
 use Rattle.cred_model.specs.Ptrace.{may_trace}
 use Rattle.cred_model.specs.Dumpable.{is_dumpable, differs, renewed, flags_begun, flag_of_value}
-use Rattle.cred_model.specs.Answers.{refusal, flag, checked, reply, is_ok}
+use Rattle.cred_model.specs.Answers.{refusal, flag, checked, reply}
 use Rattle.cred_model.specs.Change.{Made, made_by_rule, made_by_exec, by_rule, by_change}
 use Rattle.cred_model.specs.Moves.{none_or, fewer_or, unless_refused, not_overridden}
 use Rattle.cred_model.specs.Moves.{in_slot}

@@ -12,7 +12,7 @@ use Rattle.cred_event.specs.declared.entry.Entry.{Entry}
 use Rattle.cred_event.specs.declared.event.Change.{Change}
 use Rattle.cred_event.specs.declared.event.Event.{Event}
 use Rattle.cred_event.specs.declared.event.Event.TheVariants.{Alter, Chown, Chmod, SetAttr}
-use Rattle.cred_model.specs.Answers.{is_ok}
+use Rattle.cred_event.specs.Answers.{is_ok}
 use Rattle.cred_model.specs.FileChanges.{changed_file}
 use Rattle.cred_model.specs.Script.{Script}
 use Rattle.cred_model.specs.State.{State}

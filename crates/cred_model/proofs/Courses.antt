@@ -11,7 +11,7 @@ use Rattle.cred_event.specs.declared.answer.Answer.{Answer}
 use Rattle.cred_event.specs.declared.answer.Answer.TheVariants.{Stale}
 use Rattle.cred_event.specs.declared.content.Content.{Content}
 use Rattle.cred_event.specs.declared.content.Content.TheVariants.{Nothing, One, Id, Question, Open, Fcap, Signal, Ptrace, Change, Access, OnFile}
-use Rattle.cred_model.specs.Answers.{is_ok}
+use Rattle.cred_event.specs.Answers.{is_ok}
 use Rattle.cred_model.specs.Course.{Course, start, event_in, event_at, either, some_wait}
 use Rattle.cred_model.specs.Course.{next_stage, is_stale, next_try, after, most, left, is_bounded}
 use Rattle.cred_model.specs.Course.{leads, Leads}

@@ -29,7 +29,7 @@ use Rattle.cred_event.specs.declared.content.Content.TheVariants.{Fcap, Signal, 
 use Rattle.cred_event.specs.declared.content.Content.TheVariants.{Access, OnFile}
 use Rattle.cred_event.specs.declared.content.FileCall.{FileCall}
 use Rattle.cred_event.specs.declared.content.FileCall.TheVariants as call
-use Rattle.cred_model.specs.Answers.{is_ok}
+use Rattle.cred_event.specs.Answers.{is_ok}
 
 -- The labels that a line takes for itself: for what it holds first; for the new credential that it
 -- prepares, or the credential of the task that it signals or looks into; and for what access(2)

@@ -10,7 +10,7 @@ use Rattle.cred_event.specs.declared.answer.AbortCause.{AbortCause}
 use Rattle.cred_event.specs.declared.answer.AbortCause.TheVariants.{Perm, Full}
 use Rattle.cred_model.specs.State.{State, Task, Prepared, Changed}
 use Rattle.cred_model.specs.Slots.{swept_if_full, free, swept}
-use Rattle.cred_model.specs.Answers.{is_ok}
+use Rattle.cred_event.specs.Answers.{is_ok}
 
 -- refused with this answer where there is a value
 abbrev pub none_or : {A : Type 0} → Option A → Answer → Result (Unit {0}) Answer
