@@ -1,8 +1,8 @@
 //! The events of a run, their answers and the entries of its journal, and what a script's line
 //! holds: plain data alone.
 //!
-//! What an event does and answers is defined in `cred_model`; `specs/Answers` says which answers are
-//! refusals.
+//! What an event does and answers is defined in `cred_model`; `specs/Answers` says which answers
+//! are refusals.
 #![tactic(auto)]
 
 mod answer;
