@@ -1,4 +1,5 @@
-pub mod ReportLine
-pub mod Verdicts
+pub mod Appended
 pub mod Operands
 pub mod Refused
+pub mod ReportLine
+pub mod Verdicts

@@ -1,5 +1,5 @@
 -- A file is changed, or asked about, by the credential that a label holds.
-use Rattle.std.proofs.Common.{◌≡◌, ℕ, Bool, true, List, slice_get, slice_set, is_some, Option, Some, None, Result, Ok, Err, inl, inr, refl, sym, ap, subst}
+use Rattle.std.proofs.Common.{◌≡◌, ℕ, Bool, true, List, slice_get, slice_set, is_some, Option, Some, None, Result, Ok, Err, ◌⊎◌, inl, inr, refl, sym, ap, subst}
 use Rattle.cred_ids.specs.declared.arg.Arg.{Arg}
 use Rattle.cred_record.specs.Answer.{AnswersBy}
 use Rattle.cred_record.specs.Credential.{Credential}
@@ -13,9 +13,11 @@ use Rattle.cred_event.specs.declared.event.Event.{Event}
 use Rattle.cred_event.specs.declared.event.Event.TheVariants.{Chown, Chmod, SetAttr}
 use Rattle.cred_event.specs.declared.answer.Answer.TheVariants.{Done, Told, Eperm, Einval, NoHold}
 use Rattle.cred_event.specs.declared.answer.Told.TheVariants as told
-use Rattle.cred_model.specs.FileChanges.{event_changes}
+use Rattle.cred_event.specs.declared.answer.Answer.{Answer}
+use Rattle.cred_model.specs.FileChanges.{changed_by, event_changes}
+use Rattle.cred_model.specs.Script.{Script}
 use Rattle.cred_model.specs.State.{State, Numbered, held_by}
-use Rattle.cred_model.specs.Step.{by_file, by_stat, outcome}
+use Rattle.cred_model.specs.Step.{by_file, by_stat, done, outcome}
 use Rattle.cred_machine.specs.Written.{IsMadeBy}
 
 -- ---- what was made
@@ -46,6 +48,15 @@ no_other (Chown hold file owner group) is a b c = a hold file owner group refl
 no_other (Chmod hold file mode) is a b c = b hold file mode refl
 no_other (SetAttr hold file attr) is a b c = c hold file attr refl
 no_other event is a b c = cc
+
+-- and what it does is to change the file that it names, by the label that it names
+pub done_so : (script : Script) (s : State) (line : ℕ) (event : Event) (hold file : ℕ)
+    → ((owner : Arg) × (group : Arg) × event ≡ Chown hold file owner group)
+    ⊎ (((mode : ℕ) × event ≡ Chmod hold file mode) ⊎ ((attr : Option (List ℕ)) × event ≡ SetAttr hold file attr))
+    → ◌≡◌ {A = Result (Answer × State) Answer} (by_file s hold file (changed_by event)) (done script s line event)
+done_so script s line event hold file (inl (owner, group, is)) = rw is refl
+done_so script s line event hold file (inr (inl (mode, is))) = rw is refl
+done_so script s line event hold file (inr (inr (attr, is))) = rw is refl
 
 -- ---- the file at a place
 

@@ -3,7 +3,6 @@ use Rattle.std.proofs.lemmas.List.Elements.{All-head}
 use Rattle.cred_attr.specs.Exactly.{AnswersExactly}
 use Rattle.cred_record.specs.File.{IsMode}
 use Rattle.cred_rules.specs.Files.{set_attr}
-use Rattle.cred_model.specs.Named.{AreModes, event_modes}
 use Rattle.cred_machine.proofs.Written.{made_by, made_exactly, no_other}
 use Rattle.cred_machine.proofs.on_infos.changed.Goals as goal
 
@@ -20,7 +19,8 @@ pub returns-in_ok-copy_attr-in-SetAttr : goal.returns-in_ok-copy_attr-in-SetAttr
 returns-in_ok-copy_attr-in-SetAttr c =
     rw c.in-SetAttr.is
     (made_exactly _ _
-    (subst (λ (a : Option (List ℕ)). AnswersExactly c.set_attr.result (set_attr c.args.cred.now c.args.file.now a)) c.in_ok-copy_attr-in-SetAttr.ensures.equal c.set_attr.ensures))
+    (subst (λ (a : Option (List ℕ)). AnswersExactly c.set_attr.result (set_attr c.args.cred.now c.args.file.now a))
+    c.in_ok-copy_attr-in-SetAttr.ensures.equal c.set_attr.ensures))
 
 pub unreachable-requires : goal.unreachable-requires
 unreachable-requires c =
