@@ -38,7 +38,7 @@ abbrev pub references_to : Table → ℕ → ℕ
 references_to t number = count_by (λ n. n == number) (references t)
 
 -- the number stands in the slot
-abbrev pub is_sealed_in : List ℕ → ℕ → ℕ → Bool
+abbrev pub is_sealed_in : List ℕ → (slot number : ℕ) → Bool
 is_sealed_in sealed slot number =
     option_map_or (λ place. place == slot) (slice_get sealed number) false
 
