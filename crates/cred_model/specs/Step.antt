@@ -392,7 +392,8 @@ by_dumped s task = do
 
 -- A task asks to look into another: its credential and the target's decide, whether both are of one
 -- process, and whether the target's process is dumpable (ptrace(2), "Ptrace access mode checking").
-abbrev pub by_ptrace : Script → State → (from hold to target : ℕ) → Mode → Result (Answer × State) Answer
+abbrev pub by_ptrace :
+    Script → State → (from hold to target : ℕ) → Mode → Result (Answer × State) Answer
 by_ptrace script s from hold to target mode = do
   sender ← ok_or (task_of s from) (NoTask from)
   receiver ← ok_or (task_of s to) (NoTask to)
