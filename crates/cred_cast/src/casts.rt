@@ -8,7 +8,7 @@ ghost use Rattle.cred_model.specs.Casts.{waits_in, with_cast, waits_no_more, joi
 ghost use Rattle.cred_model.specs.Casts.{WaitsNowhere};
 ghost use Rattle.cred_cast.specs.Casts.{cast_under, cast_within, cast_by, AreCasts};
 
-use crate::broadcast::{Cast, falling};
+use crate::one_cast::{Cast, falling};
 use cred_ids::NoMemory;
 use cred_record::IdCall;
 use std::alloc::Global;

@@ -2,7 +2,7 @@
 //! has to.
 #![tactic(auto)]
 
-mod broadcast;
 pub mod casts;
+mod one_cast;
 
 pub use casts::Casts;
