@@ -1,5 +1,6 @@
 -- A run of which a lane goes on by an event, or has none.
-use Rattle.std.proofs.Common.{◌≡◌, ℕ, ◌≤◌, ◌==◌, ◌&&◌, not, cond, Bool, true, false, List, [], ◌∷◌, ◌++◌, length, set, Option, Some, None, is_some, is_none, MatchBool, refl, sym, ap, ◌∙◌, subst, arith}
+use Rattle.std.proofs.Common.{◌≡◌, ℕ, ◌≤◌, ◌==◌, ◌&&◌, not, cond, Bool, true, false, List, [], ◌∷◌, ◌++◌, length, set, Option, Some, None, is_some, is_none}
+use Rattle.std.proofs.Common.{MatchBool, refl, sym, ap, ◌∙◌, subst, arith}
 use Rattle.std.specs.List.{list_all}
 use Rattle.std.specs.Option.{IfSome, option_map, option_and_then}
 use Rattle.cred_ids.specs.Limits.{LINE_LIMIT}

@@ -1,5 +1,6 @@
 -- A step of a lane, and what it makes.
-use Rattle.std.proofs.Common.{◌≡◌, ℕ, zero, suc, ◌+◌, ◌<◌, ◌≤◌, List, [], ◌∷◌, ◌++◌, get_or, length, replicate, set, Option, Some, None, is_some, Bool, true, false, MatchOption, refl, sym, ap, ◌∙◌, subst, inl, inr, arith}
+use Rattle.std.proofs.Common.{◌≡◌, ℕ, zero, suc, ◌+◌, ◌<◌, ◌≤◌, List, [], ◌∷◌, ◌++◌, get_or, length, replicate, set, Option, Some, None, is_some, Bool, true}
+use Rattle.std.proofs.Common.{false, MatchOption, refl, sym, ap, ◌∙◌, subst, inl, inr, arith}
 use Rattle.std.specs.List.{count_by, flat_map, range_with_len, sum_by}
 use Rattle.std.specs.Option.{IfSome, option_map, option_and_then}
 use Rattle.std.proofs.lemmas.List.{length-replicate, length-set}
@@ -166,7 +167,8 @@ no_work book n lane is = none_out book.outs n lane is
 
 no_tokens : (book : Recorded) (lanes : List ℕ) → ((lane : ℕ) → out_of book lane ≡ None) → flat_map (λ lane. lane_tokens book lane) lanes ≡ []
 no_tokens book [] none = refl
-no_tokens book (lane ∷ lanes) none = ap (λ es. es ++ flat_map (λ lane. lane_tokens book lane) lanes) (lane_tokens_none book lane (none lane)) ∙ no_tokens book lanes none
+no_tokens book (lane ∷ lanes) none =
+    ap (λ es. es ++ flat_map (λ lane. lane_tokens book lane) lanes) (lane_tokens_none book lane (none lane)) ∙ no_tokens book lanes none
 
 -- what is so of a book of which nothing has run
 pub record IsNew (book : Recorded) : Type 0 where

@@ -1,5 +1,6 @@
 -- What bytes spell, as a relation and as a function.
-use Rattle.std.proofs.Common.{◌≡◌, ◌==◌, ◌&&◌, ◌⊎◌, inl, inr, ℕ, ◌+◌, ◌*◌, ◌%◌, ◌^◌, ◌<◌, length, Bool, true, false, List, Option, Some, None, Result, Ok, Err, IsTrue, if◌then◌else◌, refl, sym, ap, subst, ◌∙◌, arith}
+use Rattle.std.proofs.Common.{◌≡◌, ◌==◌, ◌&&◌, ◌⊎◌, inl, inr, ℕ, ◌+◌, ◌*◌, ◌%◌, ◌^◌, ◌<◌, length, Bool, true, false, List, Option, Some, None, Result, Ok, Err}
+use Rattle.std.proofs.Common.{IsTrue, if◌then◌else◌, refl, sym, ap, subst, ◌∙◌, arith}
 use Rattle.std.specs.Result.{IfOk, result_ok}
 use Rattle.std.proofs.lemmas.Bool.{eqb-true}
 use Rattle.cred_rules.specs.Attribute.{SpellsSet, set_in}
@@ -37,7 +38,8 @@ both : (a b : Bool) → (a && b) ≡ true → (a ≡ true) × (b ≡ true)
 both true b is = (refl, is)
 both false b is = cc
 
-form-spells : (bytes : List ℕ) (version : ℕ) → IsTrue (is_data_version version) → has_version_form bytes version ≡ true → SpellsData bytes (data_said bytes version)
+form-spells : (bytes : List ℕ) (version : ℕ) → IsTrue (is_data_version version) → has_version_form bytes version ≡ true
+    → SpellsData bytes (data_said bytes version)
 form-spells bytes version known hold =
     let each = both (length bytes == size_of version) (version_word bytes == word_of_version version) hold in
     said-spells bytes version known (eqb-true (length bytes) (size_of version) each.0) (eqb-true (version_word bytes) (word_of_version version) each.1)
@@ -53,7 +55,8 @@ chosen false false false x y z d same = cc
 pub spelled : (bytes : List ℕ) (d : CapData) → data_of bytes ≡ Some d → SpellsData bytes d
 unfolding data_of
 spelled bytes d same =
-    elim (chosen (has_version_form bytes 1) (has_version_form bytes 2) (has_version_form bytes 3) (data_said bytes 1) (data_said bytes 2) (data_said bytes 3) d same) [
+    elim
+    (chosen (has_version_form bytes 1) (has_version_form bytes 2) (has_version_form bytes 3) (data_said bytes 1) (data_said bytes 2) (data_said bytes 3) d same) [
       | inl one ↦ subst (SpellsData bytes) one.1 (form-spells bytes 1 refl one.0)
       | inr (inl two) ↦ subst (SpellsData bytes) two.1 (form-spells bytes 2 refl two.0)
       | inr (inr three) ↦ subst (SpellsData bytes) three.1 (form-spells bytes 3 refl three.0)

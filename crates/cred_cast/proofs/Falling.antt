@@ -1,6 +1,7 @@
 -- Tasks that wait, kept in falling order: what is read from the end is what a reader of the rising
 -- order reads from its beginning.
-use Rattle.std.proofs.Common.{◌≡◌, ◌==◌, ◌||◌, not, ℕ, ◌+◌, ◌-◌, ◌<◌, List, [], ◌∷◌, ◌++◌, length, slice_get, get_or, reverse, Option, None, Some, Bool, true, false, cond, refl, sym, ap, ◌∙◌, subst, append-nil, arith}
+use Rattle.std.proofs.Common.{◌≡◌, ◌==◌, ◌||◌, not, ℕ, ◌+◌, ◌-◌, ◌<◌, List, [], ◌∷◌, ◌++◌, length, slice_get, get_or, reverse, Option, None, Some, Bool, true}
+use Rattle.std.proofs.Common.{false, cond, refl, sym, ap, ◌∙◌, subst, append-nil, arith}
 use Rattle.std.specs.List.{All, AllPairs, filter, list_any}
 use Rattle.std.specs.List.Sorted.{IsPermutation}
 use Rattle.std.specs.Option.{IsSome, option_eq, option_to_list}
@@ -55,7 +56,9 @@ joined_either xs x ys is =
 pub stays : (task : ℕ) (xs : List ℕ) → list_any (λ n. n == task) xs ≡ false → filter (λ n. not (n == task)) xs ≡ xs
 stays task [] none = refl
 stays task (n ∷ ns) none =
-    elim (n == task) as (λ b. ((b || list_any (λ m. m == task) ns) ≡ false) → cond (not b) (n ∷ filter (λ m. not (m == task)) ns) (filter (λ m. not (m == task)) ns) ≡ n ∷ ns) [
+    elim
+    (n == task) as (λ b. ((b || list_any (λ m. m == task) ns) ≡ false)
+    → cond (not b) (n ∷ filter (λ m. not (m == task)) ns) (filter (λ m. not (m == task)) ns) ≡ n ∷ ns) [
       | true ↦ λ is. cc
       | false ↦ λ is. ap (λ ms. n ∷ ms) (stays task ns is)
     ] none

@@ -1,5 +1,6 @@
 -- A line that runs, and whose journal isn't kept.
-use Rattle.std.proofs.Common.{◌≡◌, ℕ, ◌+◌, ◌-◌, ◌*◌, ◌<◌, ◌≤◌, List, [], ◌∷◌, ◌++◌, length, slice_get, Option, Some, None, is_some, true, false, refl, sym, ap, ◌∙◌, subst, append_assoc, arith}
+use Rattle.std.proofs.Common.{◌≡◌, ℕ, ◌+◌, ◌-◌, ◌*◌, ◌<◌, ◌≤◌, List, [], ◌∷◌, ◌++◌, length, slice_get, Option, Some, None, is_some, true, false, refl, sym, ap}
+use Rattle.std.proofs.Common.{◌∙◌, subst, append_assoc, arith}
 use Rattle.std.proofs.lemmas.List.{append-nil, length_push}
 use Rattle.std.proofs.lemmas.Option.{slice_get_within}
 use Rattle.cred_event.specs.declared.content.Content.{Content}
@@ -108,7 +109,9 @@ one_more script journal line course event number answer before after is going du
     let same : comes ≡ entry
     = ap (λ n. entry_of script journal (record { line = n; event = event })) (sym same_line) ∙ ap (entry_with number event) made.answers in
     let stage = stage_is course going in
-    let fell = step_falls script journal course stage.stage line event stage.is (line_is script journal line course is.at) (of_line script journal line course is.at) due in
+    let fell =
+    step_falls script journal course stage.stage line event stage.is (line_is script journal line course is.at) (of_line script journal line course is.at)
+    due in
     let falls = subst (λ (e : Entry). left_at script (Some (model.after line.content course e.answer)) + waiting (replay script (journal ++ e ∷ []))
     < left_at script (Some course) + waiting (replay script journal)) same fell in
     let like : IsLike after (replay script (journal ++ entry ∷ [])) = subst (IsLike after) (sym (replay-push script journal entry)) made.leads in
@@ -188,7 +191,9 @@ goes_out script past before now had has content course goes over = record {
       let on = goes.on journal after in
       record {
         order = on.order;
-        is = subst (IsPast script (journal ++ goes.made)) goes.number (line_past script (journal ++ goes.made) goes.line course on.at (none_of course.stage over));
+        is =
+            subst (IsPast script (journal ++ goes.made)) goes.number
+            (line_past script (journal ++ goes.made) goes.line course on.at (none_of course.stage over));
         like = on.like;
       };
 }

@@ -31,7 +31,8 @@ pub kept_has_run : (script : Script) (past : ℕ) (state : State) (kept : List E
     → Kept script past state kept before now → HasRun script past state
 kept_has_run script past state kept before now is = (is.done ++ kept, is.after)
 
-pub kept_first : (script : Script) (state : State) (before : Option (List ℕ)) → state ≡ opening script → Appends before before [] → Kept script 0 state [] before before
+pub kept_first : (script : Script) (state : State) (before : Option (List ℕ)) → state ≡ opening script → Appends before before []
+    → Kept script 0 state [] before before
 kept_first script state before is none = record {
   done = [];
   after = nothing_run script state is;

@@ -1,5 +1,6 @@
 -- Lines that run whole and in order: from event to event, from line to line, and to the end.
-use Rattle.std.proofs.Common.{◌≡◌, ℕ, zero, suc, ◌+◌, ◌<◌, ◌≤◌, List, [], ◌∷◌, ◌++◌, length, slice_get, Option, Some, None, is_some, true, refl, sym, ap, ◌∙◌, subst, inl, inr, append_assoc, arith}
+use Rattle.std.proofs.Common.{◌≡◌, ℕ, zero, suc, ◌+◌, ◌<◌, ◌≤◌, List, [], ◌∷◌, ◌++◌, length, slice_get, Option, Some, None, is_some, true, refl, sym, ap, ◌∙◌}
+use Rattle.std.proofs.Common.{subst, inl, inr, append_assoc, arith}
 use Rattle.std.specs.Option.{IfSome, option_and_then, option_map}
 use Rattle.std.proofs.lemmas.List.{append-nil}
 use Rattle.std.proofs.lemmas.List.Sums.{fold_push}
@@ -118,7 +119,8 @@ pub next_here : (script : Script) (journal : List Entry) (line : Line) (course :
 next_here script journal line course event at due =
     ap (option_map (entry_of script journal))
     (first_due_at (λ line. true) journal 1 script.lines at.place line event
-    (λ k lt. asked (λ (l : Line). next_event journal (k + 1) l.content ≡ None) (slice_get script.lines k) (at.ended k lt)) at.here refl (next_is script journal line course at ∙ due)
+    (λ k lt. asked (λ (l : Line). next_event journal (k + 1) l.content ≡ None) (slice_get script.lines k) (at.ended k lt)) at.here refl
+    (next_is script journal line course at ∙ due)
     ∙ ap (λ (n : ℕ). Some (record { line = n; event = event })) (sym at.number))
 
 -- where all lines have ended none is left
@@ -126,7 +128,8 @@ pub all_past : (script : Script) (journal : List Entry) (past : ℕ) → IsPast 
     → next_in_order script journal ≡ None
 all_past script journal past at all =
     ap (option_map (entry_of script journal))
-    (first_due_none (λ line. true) journal 1 script.lines (λ k lt. asked (λ (l : Line). next_event journal (k + 1) l.content ≡ None) (slice_get script.lines k) (at.ended k (omega (arith, lt, all)))))
+    (first_due_none (λ line. true) journal 1 script.lines
+    (λ k lt. asked (λ (l : Line). next_event journal (k + 1) l.content ≡ None) (slice_get script.lines k) (at.ended k (omega (arith, lt, all)))))
 
 -- ---- each journal in order goes on to the end
 
@@ -141,7 +144,8 @@ abbrev pub ahead : Script → List Entry → Course → ℕ
 ahead script journal course = left_at script (Some course) + waiting (replay script journal)
 
 rest_by : (script : Script) (journal : List Entry) (line : Line) (course : Course) (at : StandsAt script journal line course) → IsInOrder script journal
-    → ((longer : List Entry) (next : Course) → StandsAt script longer line next → IsInOrder script longer → ahead script longer next < ahead script journal course
+    → ((longer : List Entry) (next : Course) → StandsAt script longer line next → IsInOrder script longer
+    → ahead script longer next < ahead script journal course
     → RestOfLine script longer next.line)
     → RestOfLine script journal course.line
 rest_by script journal line course at order again = by course.stage refl
@@ -175,7 +179,8 @@ rest_by script journal line course at order again = by course.stage refl
     by (Some stage) is =
         by_event stage is (event_at line.content course) refl (makes_event line.content course course.stage refl own ∙ ap is_some is)
 
-rest_of_line : (fuel : ℕ) (script : Script) (journal : List Entry) (line : Line) (course : Course) → StandsAt script journal line course → IsInOrder script journal
+rest_of_line : (fuel : ℕ) (script : Script) (journal : List Entry) (line : Line) (course : Course) → StandsAt script journal line course
+    → IsInOrder script journal
     → ahead script journal course < fuel → RestOfLine script journal course.line
 rest_of_line zero script journal line course at order lt = absurd (omega (arith, lt))
 rest_of_line (suc fuel) script journal line course at order lt =

@@ -53,7 +53,8 @@ told_more script past state after told has is runs =
     }
 
 -- where all lines have run it is the summary of the sequence
-pub told_all : (script : Script) (past : ℕ) (state : State) (told : Summary) → Told script past state told → length script.lines ≤ past → TellsSequence script told
+pub told_all : (script : Script) (past : ℕ) (state : State) (told : Summary) → Told script past state told → length script.lines ≤ past
+    → TellsSequence script told
 told_all script past state told is all =
     let sequence = is_whole script is.done past state is.after all in
     (is.done, sequence, is.is ∙ told_whole script is.done (in_order_is_answered script is.done is.after.order))

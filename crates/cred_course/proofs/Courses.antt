@@ -1,5 +1,6 @@
 -- The course of a lane's line, from event to event and from line to line.
-use Rattle.std.proofs.Common.{◌≡◌, ◌≢◌, ℕ, zero, suc, ◌+◌, ◌-◌, ◌<◌, ◌≤◌, ◌==◌, cond, List, [], ◌∷◌, ◌++◌, length, slice_get, Option, Some, None, is_some, is_none, true, false, refl, sym, ap, ◌∙◌, subst, inl, inr, arith}
+use Rattle.std.proofs.Common.{◌≡◌, ◌≢◌, ℕ, zero, suc, ◌+◌, ◌-◌, ◌<◌, ◌≤◌, ◌==◌, cond, List, [], ◌∷◌, ◌++◌, length, slice_get, Option, Some, None, is_some}
+use Rattle.std.proofs.Common.{is_none, true, false, refl, sym, ap, ◌∙◌, subst, inl, inr, arith}
 use Rattle.std.specs.Option.{IfSome, option_and_then, option_map_or}
 use Rattle.std.proofs.lemmas.List.Sums.{fold_push}
 use Rattle.std.proofs.lemmas.Bool.{cases_lt}
@@ -255,7 +256,8 @@ goes_on {lane} script journal course entry at same =
       own = at.own;
       ended = λ k lt.
           let other = answers_of-push_other journal entry (k + 1) (λ e. omega arith) in
-          subst (λ answers. IfSome (slice_get script.lines k) (λ l. is_of lane l ≡ true → event_at l.content (leads (k + 1) l.content answers) ≡ None)) (sym other)
+          subst (λ answers. IfSome (slice_get script.lines k) (λ l. is_of lane l ≡ true → event_at l.content (leads (k + 1) l.content answers) ≡ None))
+          (sym other)
           (at.ended k lt);
       later = λ k lt.
           let other = answers_of-push_other journal entry (k + 1) (λ e. omega arith) in

@@ -1,5 +1,6 @@
 -- The lane of the least line that is left.
-use Rattle.std.proofs.Common.{◌≡◌, ℕ, ◌+◌, ◌<◌, ◌≤◌, ◌==◌, ◌&&◌, not, cond, Bool, true, false, List, get_or, length, slice_get, Option, Some, None, is_some, inl, inr, refl, sym, ap, ◌∙◌, subst, arith}
+use Rattle.std.proofs.Common.{◌≡◌, ℕ, ◌+◌, ◌<◌, ◌≤◌, ◌==◌, ◌&&◌, not, cond, Bool, true, false, List, get_or, length, slice_get, Option, Some, None, is_some}
+use Rattle.std.proofs.Common.{inl, inr, refl, sym, ap, ◌∙◌, subst, arith}
 use Rattle.std.specs.Option.{IfSome, option_and_then}
 use Rattle.std.proofs.lemmas.Bool.{cases_lt}
 use Rattle.std.proofs.lemmas.Bool.Decides.{nat_tests}
@@ -138,7 +139,8 @@ pub earlier_ended : (script : Script) (journal : List Entry) (cursors : List (Op
     → (is : IsLeast cursors lane) (place : ℕ) → place + 1 < is.course.line → IsEnded every journal 1 script.lines place
 earlier_ended script journal cursors lane at is place earlier = by (slice_get script.lines place) refl
   where
-    by : (found : Option Line) → slice_get script.lines place ≡ found → IfSome found (λ line. every line ≡ true → next_event journal (place + 1) line.content ≡ None)
+    by : (found : Option Line) → slice_get script.lines place ≡ found
+        → IfSome found (λ line. every line ≡ true → next_event journal (place + 1) line.content ≡ None)
     by None here = tt
     by (Some line) here = λ any.
         let own = cursor_of cursors line.lane in
@@ -209,7 +211,8 @@ never_waits lane (Some first) from =
 pub least_is_due : (script : Script) (journal : List Entry) (cursors : List (Option Course)) (lane : ℕ) → SetupFirst script
     → AreCursors script journal cursors → (is : IsLeast cursors lane) → due_of cursors lane ≡ Some is.course
 least_is_due script journal cursors lane setup at is =
-    ap (λ b. cond b None (cursor_of cursors lane)) (never_waits lane (cursor_of cursors 0) (λ some. by (cursor_of cursors 0) (at 0) (is.least 0) some)) ∙ is.here
+    ap (λ b. cond b None (cursor_of cursors lane)) (never_waits lane (cursor_of cursors 0) (λ some. by (cursor_of cursors 0) (at 0) (is.least 0) some))
+    ∙ is.here
   where
     by : (first : Option Course) → IsLaneCursor script journal 0 first → IsNoLater (Some is.course) first → is_some first ≡ true → lane ≡ 0
     by None setup_at later some = absurd (cc)

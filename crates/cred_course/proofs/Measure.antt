@@ -1,11 +1,14 @@
 -- Fewer steps are left after each event that is entered.
-use Rattle.std.proofs.Common.{◌≡◌, ℕ, ◌+◌, ◌*◌, ◌-◌, ◌<◌, ◌≤◌, cond, List, [], ◌∷◌, ◌++◌, length, Option, Some, None, is_some, true, false, refl, sym, ap, ◌∙◌, subst, arith}
+use Rattle.std.proofs.Common.{◌≡◌, ℕ, ◌+◌, ◌*◌, ◌-◌, ◌<◌, ◌≤◌, cond, List, [], ◌∷◌, ◌++◌, length, Option, Some, None, is_some, true, false, refl, sym, ap, ◌∙◌}
+use Rattle.std.proofs.Common.{subst, arith}
 use Rattle.std.specs.Option.{IfSome, option_and_then, option_map_or}
 use Rattle.cred_ids.specs.Limits.{TRIES, TASKS}
 use Rattle.cred_event.specs.declared.content.Content.{Content}
 use Rattle.cred_event.specs.declared.content.Content.TheVariants.{One, Id, Question, Open, Fcap, Signal, Ptrace, Change, Access, OnFile}
 use Rattle.cred_event.specs.declared.content.Stage.{Stage}
-use Rattle.cred_event.specs.declared.content.Stage.TheVariants.{First, Acting, Asking, Opening, Calling, TakingTarget, Signalling, Tracing, ReleasingTarget, Preparing, Altering, Committing, Aborting, Overriding, TakingAccess, ReleasingAccess, Reverting, Releasing, Retrying}
+use Rattle.cred_event.specs.declared.content.Stage.TheVariants.{First, Acting, Asking, Opening, Calling, TakingTarget, Signalling, Tracing, ReleasingTarget}
+use Rattle.cred_event.specs.declared.content.Stage.TheVariants.{Preparing, Altering, Committing, Aborting, Overriding, TakingAccess, ReleasingAccess, Reverting}
+use Rattle.cred_event.specs.declared.content.Stage.TheVariants.{Releasing, Retrying}
 use Rattle.cred_event.specs.declared.event.Event.{Event}
 use Rattle.cred_event.specs.declared.event.Event.TheVariants.{Begin, Act, Spawn}
 use Rattle.cred_event.specs.declared.answer.Answer.{Answer}
@@ -152,7 +155,8 @@ id_falls task call course Acting event answer before now here is waits =
     let none : more_wait event ≡ 0 = ap more_wait (sym same) in
     let was = ahead_is content course Acting here in
     subst (λ c. ahead content c + now < ahead content course + before) (sym (after_is content course Acting answer here))
-    (elim (some_wait answer) as (λ b. some_wait answer ≡ b → ahead content (record course { stage = cond b (Some Acting) None }) + now < ahead content course + before) [
+    (elim
+    (some_wait answer) as (λ b. some_wait answer ≡ b → ahead content (record course { stage = cond b (Some Acting) None }) + now < ahead content course + before) [
       | true ↦ λ left. omega (arith, was, waits.lowered course.line (sym same) left)
       | false ↦ λ left. omega (arith, was, none, waits.raised)
     ] refl)

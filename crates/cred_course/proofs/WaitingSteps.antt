@@ -1,5 +1,6 @@
 -- How an event changes the number of tasks that wait.
-use Rattle.std.proofs.Common.{◌≡◌, ℕ, ◌+◌, ◌<◌, ◌≤◌, ◌-◌, ◌==◌, not, Bool, true, List, length, slice_get, map, Option, Some, None, Result, Ok, Err, ok_or, refl, sym, ap, ◌∙◌, subst, arith}
+use Rattle.std.proofs.Common.{◌≡◌, ℕ, ◌+◌, ◌<◌, ◌≤◌, ◌-◌, ◌==◌, not, Bool, true, List, length, slice_get, map, Option, Some, None, Result, Ok, Err, ok_or, refl}
+use Rattle.std.proofs.Common.{sym, ap, ◌∙◌, subst, arith}
 use Rattle.std.specs.List.{filter}
 use Rattle.std.proofs.lemmas.List.{length-map}
 use Rattle.std.proofs.lemmas.List.Sums.{count_by-le-length, length-filter}
@@ -27,7 +28,8 @@ use Rattle.cred_model.specs.Step.{aborted, follow, outcome, step}
 use Rattle.cred_model.proofs.Rising.{length-in_order}
 use Rattle.cred_sound.specs.Sound.{IsSound}
 use Rattle.cred_sound.proofs.Tests.{in_slots}
-use Rattle.cred_sound.proofs.Parts.{TasksChange, Cause, Creation, Death, begun, casts_left, ByBegin, ByAct, ByRaw, ByCommit, BySpawn, ByFork, ByExit, ByAbort, SameTasks, SetsFlag, Creates, Shares, Renews, Overrides, Fewer}
+use Rattle.cred_sound.proofs.Parts.{TasksChange, Cause, Creation, Death, begun, casts_left, ByBegin, ByAct, ByRaw, ByCommit, BySpawn, ByFork, ByExit, ByAbort}
+use Rattle.cred_sound.proofs.Parts.{SameTasks, SetsFlag, Creates, Shares, Renews, Overrides, Fewer}
 use Rattle.cred_sound.proofs.Events.{changes}
 use Rattle.cred_cast.proofs.Conditions.{casts_are, least_waits}
 use Rattle.cred_course.specs.Waiting.{waiting, waiting_in}
@@ -133,7 +135,8 @@ follow_lowers : (s : State) (number task : ℕ) (cast : Broadcast) (owner : Task
 follow_lowers s number task cast owner old (Err refusal) opened first = λ waits. cc
 follow_lowers s number task cast owner old (Ok new) opened first =
     in_slots (Lowers s) s (λ now. (Aborted task cause.Full, aborted cast now))
-    (λ now slot. (Acted task (length now.creds) slot (length cast.waiting - 1), record (replaced now task old.number new slot) { casts = waits_no_more task now.casts; dumpable = renewed now.dumpable owner.process (differs old.cred new) }))
+    (λ now slot.
+    (Acted task (length now.creds) slot (length cast.waiting - 1), record (replaced now task old.number new slot) { casts = waits_no_more task now.casts; dumpable = renewed now.dumpable owner.process (differs old.cred new) }))
     (λ left fewer waits. cc)
     (λ left slot fewer free waits. waiting-acted task number s.casts cast opened (least_waits cast task first))
 

@@ -30,7 +30,8 @@ sound_full : (reading : Reading) (first : List ℕ) (words : List (List ℕ)) �
 unfolding parse_full
 sound_full reading first words = by (form_of first)
   where
-    by : (o : Option Form) → spelled.Holds (IsParsed reading) (ok_or o Word >>= λ form. parse_form reading.files form words >>= λ line. admits reading line >>= λ fits. Ok line)
+    by : (o : Option Form)
+        → spelled.Holds (IsParsed reading) (ok_or o Word >>= λ form. parse_form reading.files form words >>= λ line. admits reading line >>= λ fits. Ok line)
     by (Some form) = sound_form reading form words (parse_form reading.files form words) refl
     by None = tt
 

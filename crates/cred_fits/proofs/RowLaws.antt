@@ -1,5 +1,6 @@
 -- Each event is given one of the answers of its row.
-use Rattle.std.proofs.Common.{◌≡◌, ℕ, ◌-◌, ◌==◌, ◌||◌, nat_lt, Bool, true, false, cond, List, [], ◌∷◌, length, slice_get, slice_set, not, Option, Some, None, Result, Ok, Err, ok_or, refl, ap, arith}
+use Rattle.std.proofs.Common.{◌≡◌, ℕ, ◌-◌, ◌==◌, ◌||◌, nat_lt, Bool, true, false, cond, List, [], ◌∷◌, length, slice_get, slice_set, not, Option, Some, None}
+use Rattle.std.proofs.Common.{Result, Ok, Err, ok_or, refl, ap, arith}
 use Rattle.std.specs.List.{find, position, count_by}
 use Rattle.std.proofs.lemmas.Bool.Decides.{nat_tests}
 use Rattle.std.specs.Option.{option_map_or, option_and_then}
@@ -45,8 +46,12 @@ use Rattle.cred_model.specs.Moves.{preparing, altered, committed, given_up}
 use Rattle.cred_model.specs.Named.{query_files, change_files}
 use Rattle.cred_model.specs.Script.{Script, chain_of, root_of}
 use Rattle.cred_model.specs.Slots.{swept_if_full, free}
-use Rattle.cred_model.specs.State.{State, Task, Numbered, Prepared, Changed, Broadcast, numbered, task_of, cast_of, cast_in, begun_by, open_of, hold_of, prepared_of, credential_of, opener_of, held_by, info_of}
-use Rattle.cred_model.specs.Step.{outcome, by_init, take_hold, by_take, by_take_file, by_release, by_ask, by_signal, by_prepare, by_alter, for_task, try_commit, ends_with, casts_after, committed_by, commit_answer, by_commit, by_abort, for_access, override_held, override_prepared, by_override, by_revert, by_begin, aborted, follow, by_act, by_open, by_close, by_spawn, by_fork, by_exit, by_dumpable, by_dumped, by_ptrace, by_file, by_stat, by_raw}
+use Rattle.cred_model.specs.State.{State, Task, Numbered, Prepared, Changed, Broadcast, numbered, task_of, cast_of, cast_in, begun_by, open_of, hold_of}
+use Rattle.cred_model.specs.State.{prepared_of, credential_of, opener_of, held_by, info_of}
+use Rattle.cred_model.specs.Step.{outcome, by_init, take_hold, by_take, by_take_file, by_release, by_ask, by_signal, by_prepare, by_alter, for_task, try_commit}
+use Rattle.cred_model.specs.Step.{ends_with, casts_after, committed_by, commit_answer, by_commit, by_abort, for_access, override_held, override_prepared}
+use Rattle.cred_model.specs.Step.{by_override, by_revert, by_begin, aborted, follow, by_act, by_open, by_close, by_spawn, by_fork, by_exit, by_dumpable}
+use Rattle.cred_model.specs.Step.{by_dumped, by_ptrace, by_file, by_stat, by_raw}
 use Rattle.cred_laws.proofs.Cases.{some_case, none_case, test_case, own_case, idle_case}
 use Rattle.cred_answers.specs.CallRows as call_rows
 use Rattle.cred_answers.specs.Rows as rows
@@ -77,7 +82,8 @@ of_init s task process user group ns root =
     none_case Q (task_of s task) _ _ refl (λ new.
     test_case Q (nat_lt (length s.tasks) TASKS) _ _ refl
     (slot_tells rows.init_row s table_full
-    (λ t slot. (answer.Sealed (length t.creds) slot, record (created t (first_task task process (length t.creds)) (first_credential user group ns root) slot) { dumpable = flags_begun t process }))
+    (λ t slot.
+    (answer.Sealed (length t.creds) slot, record (created t (first_task task process (length t.creds)) (first_credential user group ns root) slot) { dumpable = flags_begun t process }))
     (λ t. refl) (λ t slot. refl))))
 
 of_hold : (row : Answer → Bool) (s : State) (label : ℕ) (taken : Numbered) → row (answer.Exists named.Label label) ≡ true
@@ -105,7 +111,8 @@ of_release s label =
 of_flag : (set : Caps) (cap : ℕ) → rows.cap_row cap (flag (read_in set cap)) ≡ true
 of_flag set cap = by (nat_lt LAST cap)
   where
-    by : (above : Bool) → cond above (rows.no_cap_row (flag (cond above None (Some (has set cap))))) (rows.capable_row (flag (cond above None (Some (has set cap))))) ≡ true
+    by : (above : Bool)
+        → cond above (rows.no_cap_row (flag (cond above None (Some (has set cap))))) (rows.capable_row (flag (cond above None (Some (has set cap))))) ≡ true
     by true = refl
     by false = refl
 
@@ -236,8 +243,10 @@ IsCommitted made = rows.commit_row made.0 ≡ true
 tried : (s : State) (place : ℕ) (p : Prepared) (owner : Task) (last : Changed) → IsCommitted (try_commit s place p owner last)
 tried s place p owner last =
     let ends = ends_with last.change owner in
-    elim (owner.current == p.base) as (λ b. IsCommitted (cond b
-    (commit_answer last (length s.creds) p.slot (count_by ends s.tasks), record (casts_after last.change owner (committed (ended ends s) place p owner.current last.cred)) { dumpable = flags_committed s owner last })
+    elim (owner.current == p.base) as (λ b. IsCommitted (cond b (
+      commit_answer last (length s.creds) p.slot (count_by ends s.tasks),
+      record (casts_after last.change owner (committed (ended ends s) place p owner.current last.cred)) { dumpable = flags_committed s owner last },
+    )
     (answer.Stale p.base owner.current, given_up s place p))) [
       | true ↦ of_committed last.change last.gains (length s.creds) p.slot (count_by ends s.tasks)
       | false ↦ refl
@@ -308,7 +317,8 @@ of_raw s task call =
     own_case Q owner _ (λ depth. refl)
     (of_raw_made s call (set_id old.cred call) _ (of_call old.cred call) (λ made valid.
     slot_tells row s table_full
-    (λ t slot. (answer.Sealed (length t.creds) slot, record (replaced t task old.number made slot) { dumpable = renewed t.dumpable owner.process (differs old.cred made) }))
+    (λ t slot.
+    (answer.Sealed (length t.creds) slot, record (replaced t task old.number made slot) { dumpable = renewed t.dumpable owner.process (differs old.cred made) }))
     (λ t. ap not valid) (λ t slot. ap not valid))))))
 
 of_begin : (s : State) (line task : ℕ) (call : IdCall) → Tells (call_rows.begin_row call) s (by_begin s line task call)
@@ -324,15 +334,18 @@ of_begin s line task call =
     let others = others_of owner s.tasks in
     let cast : Broadcast = record { number = line; process = owner.process; caller = task; call = call; waiting = others } in
     slot_tells row s table_full
-    (λ t slot. (answer.Began (length t.creds) slot (length others), record (replaced t task old.number made slot) { casts = with_cast t.casts cast; dumpable = renewed t.dumpable owner.process (differs old.cred made) }))
+    (λ t slot.
+    (answer.Began (length t.creds) slot (length others), record (replaced t task old.number made slot) { casts = with_cast t.casts cast; dumpable = renewed t.dumpable owner.process (differs old.cred made) }))
     (λ t. ap not valid) (λ t slot. ap not valid)))))))
 
-followed : (s : State) (cast : Broadcast) (task : ℕ) (owner : Task) (old : Numbered) (r : Result Credential Answer) → rows.act_row (follow s cast task owner old r).0 ≡ true
+followed : (s : State) (cast : Broadcast) (task : ℕ) (owner : Task) (old : Numbered) (r : Result Credential Answer)
+    → rows.act_row (follow s cast task owner old r).0 ≡ true
 followed s cast task owner old (Err refused) = refl
 followed s cast task owner old (Ok made) =
     slot_tells rows.act_row s
     (λ t. (answer.Aborted task cause.Full, aborted cast t))
-    (λ t slot. (answer.Acted task (length t.creds) slot (length cast.waiting - 1), record (replaced t task old.number made slot) { casts = waits_no_more task t.casts; dumpable = renewed t.dumpable owner.process (differs old.cred made) }))
+    (λ t slot.
+    (answer.Acted task (length t.creds) slot (length cast.waiting - 1), record (replaced t task old.number made slot) { casts = waits_no_more task t.casts; dumpable = renewed t.dumpable owner.process (differs old.cred made) }))
     (λ t. refl) (λ t slot. refl)
 
 of_act : (s : State) (number : ℕ) → Tells rows.act_row s (by_act s number)
@@ -438,7 +451,9 @@ of_chown s hold place owner group =
     some_case Q (held_by s hold) _ _ refl (λ held is.
     some_case Q (slice_get s.infos place) _ _ refl (λ old there.
     let does : File → Result (Answer × State) Answer = λ new. Ok (answer.Done, record s { infos = slice_set s.infos place new }) in
-    elim (may_chown held.cred old owner group) as (λ b. may_chown held.cred old owner group ≡ b → Q (by_rule (cond b (Ok (chowned old owner group)) (Err Perm)) >>= does)) [
+    elim
+    (may_chown held.cred old owner group) as (λ b. may_chown held.cred old owner group ≡ b
+    → Q (by_rule (cond b (Ok (chowned old owner group)) (Err Perm)) >>= does)) [
       | true ↦ λ may. refl
       | false ↦ λ no. refused_gives (capable held.cred CHOWN) (gives_one owner group) (may_as_owner held.cred old owner group) no
     ] refl))
@@ -462,7 +477,9 @@ of_set_attr s hold place attr =
     some_case Q (held_by s hold) _ _ refl (λ held is.
     some_case Q (slice_get s.infos place) _ _ refl (λ old there.
     let does : File → Result (Answer × State) Answer = λ new. Ok (answer.Done, record s { infos = slice_set s.infos place new }) in
-    elim (capable held.cred SETFCAP) as (λ a. Q (by_rule (cond (not a) (Err Perm) (cond (not (is_attr attr)) (Err Invalid) (Ok (record old { attr = attr })))) >>= does)) [
+    elim
+    (capable held.cred SETFCAP) as (λ a. Q
+    (by_rule (cond (not a) (Err Perm) (cond (not (is_attr attr)) (Err Invalid) (Ok (record old { attr = attr })))) >>= does)) [
       | true ↦ elim (is_attr attr) as (λ b. is_attr attr ≡ b → Q (by_rule (cond (not b) (Err Invalid) (Ok (record old { attr = attr }))) >>= does)) [
         | true ↦ λ one. one
         | false ↦ λ none. ap not none

@@ -75,5 +75,6 @@ refused (Err d) e h = let same : d ≡ e = cc in ap (λ (x : ℕ × Reason). let
 pub tells_first : (texts : List (List ℕ)) (result : Result Script ScriptRefusal)
     → ReadsAs (λ (given : Script). given) result (add_lines nothing texts >>= λ reading. Ok (script reading)) → ReportsFirstBad texts result
 tells_first texts (Ok given) h = tt
-tells_first texts (Err (Bad line reason)) h = is_first texts line reason (first_bad texts nothing line reason (refused (add_lines nothing texts) (line, reason) h))
+tells_first texts (Err (Bad line reason)) h =
+    is_first texts line reason (first_bad texts nothing line reason (refused (add_lines nothing texts) (line, reason) h))
 tells_first texts (Err Memory) h = tt

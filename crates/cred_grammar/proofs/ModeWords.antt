@@ -13,8 +13,12 @@ octal_small byte true true low high = grind (arith, nat_tests)
 octal_digit : (byte : ℕ) → IfSome (octal_of byte) (λ digit. digit ≤ 7)
 octal_digit byte = octal_small byte (nat_le 48 byte) (nat_le byte 55) refl refl
 
-mode_small : (a b c d : Option ℕ) → IfSome a (λ digit. digit ≤ 7) → IfSome b (λ digit. digit ≤ 7) → IfSome c (λ digit. digit ≤ 7) → IfSome d (λ digit. digit ≤ 7)
-    → IfSome (option_and_then (λ first. option_and_then (λ second. option_and_then (λ third. option_map (λ fourth. 512 * first + 64 * second + 8 * third + fourth) d) c) b) a) (λ mode. IsMode mode)
+mode_small : (a b c d : Option ℕ) → IfSome a (λ digit. digit ≤ 7) → IfSome b (λ digit. digit ≤ 7) → IfSome c (λ digit. digit ≤ 7)
+    → IfSome d (λ digit. digit ≤ 7)
+    → IfSome
+    (option_and_then
+    (λ first. option_and_then (λ second. option_and_then (λ third. option_map (λ fourth. 512 * first + 64 * second + 8 * third + fourth) d) c) b) a)
+    (λ mode. IsMode mode)
 mode_small None b c d one two three four = tt
 mode_small (Some w) None c d one two three four = tt
 mode_small (Some w) (Some x) None d one two three four = tt

@@ -1,5 +1,6 @@
 -- The slots and loans of a master, as contracts see them.
-use Rattle.std.proofs.Common.{length-append, ◌≡◌, ◌≢◌, zero, suc, ◌+◌, ◌<◌, ℕ, List, ◌∷◌, [], map, replicate, take, drop, length, set, Some, None, Bool, true, false, refl, sym, ap, ◌∙◌, subst, ⊎_elim, arith}
+use Rattle.std.proofs.Common.{length-append, ◌≡◌, ◌≢◌, zero, suc, ◌+◌, ◌<◌, ℕ, List, ◌∷◌, [], map, replicate, take, drop, length, set, Some, None, Bool, true}
+use Rattle.std.proofs.Common.{false, refl, sym, ap, ◌∙◌, subst, ⊎_elim, arith}
 use Rattle.std.specs.Prelude.{slice_get, slice_index, not, ◌&&◌, if◌then◌else◌}
 use Rattle.std.specs.List.{AllByRecursion}
 use Rattle.std.proofs.lemmas.List.{get_or-drop, get_or-take, map-append}
@@ -19,7 +20,8 @@ use Rattle.cred_words.proofs.Seats.{slot_there}
 use Rattle.cred_hold.specs.Tokens.{loan, seen_if, loan_seen, slot_seen, AreSlots, IsAlone}
 use Rattle.cred_hold.proofs.Whole.{length-known}
 
-pub sealed_words : (d : Ledger) (slot : ℕ) → AreSlots d.slots → words.IsSealedSlot d slot → (length (words_at d.slots slot) ≡ width) × (are_words (words_at d.slots slot) ≡ true)
+pub sealed_words : (d : Ledger) (slot : ℕ) → AreSlots d.slots → words.IsSealedSlot d slot
+    → (length (words_at d.slots slot) ≡ width) × (are_words (words_at d.slots slot) ≡ true)
 sealed_words d slot all h =
     let are = ap are_words (words_at-get d.slots slot h.0 h.1) ∙ all slot h.0 h.1 in
     (length-known _ are ∙ sym width_is, are)
@@ -40,7 +42,8 @@ slots_after_back slots t put all are = by t.writes
     by true = slots_set slots t.slot (slot_of t.words (put && are_words t.words)) all are
     by false = all
 
-pub after_writer : (slots : List Slot) (slot : ℕ) → slot < length slots → AreSlots slots → AreSlots (set slots slot (slot_of (words_at slots slot) false)) × (are_words (words_at slots slot) ≡ true)
+pub after_writer : (slots : List Slot) (slot : ℕ) → slot < length slots → AreSlots slots
+    → AreSlots (set slots slot (slot_of (words_at slots slot) false)) × (are_words (words_at slots slot) ≡ true)
 after_writer slots slot small all =
     let there = slot_there slots slot small in
     let are : are_words (words_at slots slot) ≡ true = ap are_words (words_at-get slots slot there.0 there.1) ∙ all slot there.0 there.1 in
@@ -49,7 +52,8 @@ after_writer slots slot small all =
 -- ---- as they are seen
 
 -- a slot that is seen to be sealed, sealed with words of that credential
-pub sealed-seen : (slots : List Slot) (slot : ℕ) (c : Credential) → slice_get (map slot_seen slots) slot ≡ Some (Some c) → (x : Slot) × (slice_get slots slot ≡ Some x) × (x.sealed ≡ true) × (credential_in x.words ≡ c)
+pub sealed-seen : (slots : List Slot) (slot : ℕ) (c : Credential) → slice_get (map slot_seen slots) slot ≡ Some (Some c)
+    → (x : Slot) × (slice_get slots slot ≡ Some x) × (x.sealed ≡ true) × (credential_in x.words ≡ c)
 sealed-seen [] slot c at = absurd (cc)
 sealed-seen (x ∷ slots) zero c at = let h = by x.sealed (same_Some _ _ at) in (x, refl, h.0, h.1)
   where

@@ -112,7 +112,8 @@ has_entered before after lane works was now is then has = record {
 }
 
 -- so of a step
-pub advanced : {E : Type 0} (infos : List File) (cells : TableId) (before after : Recorded) (lane : ℕ) (was : Numbers) (entry : Option Entry) (step : Result Step E)
+pub advanced : {E : Type 0} (infos : List File) (cells : TableId) (before after : Recorded) (lane : ℕ) (was : Numbers) (entry : Option Entry)
+    (step : Result Step E)
     → was ≡ numbers_in before lane → was.out ≡ None → after.script ≡ before.script → after.words.id ≡ cells → infos_in after ≡ infos → IsSetUp before
     → IfOk step (Makes before after lane entry) → IfOk step (Counts before after lane) → OnErr step (after ≡ before)
     → IfOk step (Advanced before.script infos cells (seen lane was) (seen lane (after_step was (ended_of after.script after.journal lane) step)))

@@ -1,5 +1,6 @@
 -- What an event makes of a file.
-use Rattle.std.proofs.Common.{◌≡◌, ◌≢◌, ◌==◌, ℕ, zero, suc, List, [], ◌∷◌, slice_get, slice_set, Option, Some, None, Result, Ok, Err, Bool, true, false, not, cond, refl, sym, ap, ◌∙◌, subst}
+use Rattle.std.proofs.Common.{◌≡◌, ◌≢◌, ◌==◌, ℕ, zero, suc, List, [], ◌∷◌, slice_get, slice_set, Option, Some, None, Result, Ok, Err, Bool, true, false, not}
+use Rattle.std.proofs.Common.{cond, refl, sym, ap, ◌∙◌, subst}
 use Rattle.std.specs.Option.{IfSome}
 use Rattle.std.specs.Int.Bits.{bit_and, and_zero_r}
 use Rattle.std.proofs.lemmas.Bool.{eqb-true, eqb-false}
@@ -78,7 +79,8 @@ without_both mode = ap (λ n. not (n == 0)) (and_assoc 2048 (without_bits mode S
 
 stripped_clear : (mode : ℕ) → has_any (stripped mode) SET_USER ≡ false
 stripped_clear mode =
-    elim (has_any mode GROUP_EXECUTE) as (λ b. has_any (cond b (without_bits (without_bits mode SET_USER) SET_GROUP) (without_bits mode SET_USER)) SET_USER ≡ false) [
+    elim
+    (has_any mode GROUP_EXECUTE) as (λ b. has_any (cond b (without_bits (without_bits mode SET_USER) SET_GROUP) (without_bits mode SET_USER)) SET_USER ≡ false) [
       | true ↦ without_both mode
       | false ↦ without_clear mode
     ]

@@ -60,7 +60,11 @@ module _ (s : State) (number task cast_at : ℕ) (cast : Broadcast) (owner : Tas
       same : (b : Bool)
           → ◌≡◌ {A = Answer × State} (
             Acted task (length s.creds) slot left,
-            record (replaced (swept_if b s) task old.number made slot) { casts = waits_no_more task s.casts; dumpable = renewed s.dumpable owner.process (differs old.cred made) },
+            record (replaced (swept_if b s) task old.number made slot) {
+              casts = waits_no_more task s.casts;
+              dumpable = renewed s.dumpable owner.process
+                  (differs old.cred made);
+            },
           ) (
             Acted task (length s.creds) slot left,
             record (replaced (swept_if b s) task old.number made slot) {

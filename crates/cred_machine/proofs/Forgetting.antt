@@ -1,5 +1,6 @@
 -- What is forgotten, and what stays so.
-use Rattle.std.proofs.Common.{◌≡◌, ◌==◌, ◌||◌, ◌⊎◌, inl, inr, ℕ, zero, suc, Bool, true, false, List, [], ◌∷◌, ◌++◌, length, map, slice_get, Result, Ok, Err, refl, sym, ap, ◌∙◌, subst, arith}
+use Rattle.std.proofs.Common.{◌≡◌, ◌==◌, ◌||◌, ◌⊎◌, inl, inr, ℕ, zero, suc, Bool, true, false, List, [], ◌∷◌, ◌++◌, length, map, slice_get, Result, Ok, Err}
+use Rattle.std.proofs.Common.{refl, sym, ap, ◌∙◌, subst, arith}
 use Rattle.std.specs.List.{All, Contains, flat_map, list_any}
 use Rattle.std.specs.Option.{IfSome}
 use Rattle.std.specs.Result.{IfOk, OnErr}
@@ -128,7 +129,8 @@ get_push P (y ∷ ys) x (suc n) each last = get_push P ys x n each (λ is. last 
 
 still_kept : (s t : State) → CredsKept s t → All (Contains (refs t)) (refs s) → KeepsReferred s → KeepsReferred t
 still_kept s t (NoneMore same) each before n none =
-    subst (λ (creds : List SealedCred). IfSome (slice_get creds n) (λ sealed. sealed.cred ≡ gone)) (sym same) (before n (not_among (refs s) (refs t) n each none))
+    subst (λ (creds : List SealedCred). IfSome (slice_get creds n) (λ sealed. sealed.cred ≡ gone)) (sym same)
+    (before n (not_among (refs s) (refs t) n each none))
 still_kept s t (OneMore new is there) each before n none =
     subst (λ (creds : List SealedCred). IfSome (slice_get creds n) (λ sealed. sealed.cred ≡ gone)) (sym is)
     (get_push (λ (sealed : SealedCred). sealed.cred ≡ gone) s.creds new n (before n (not_among (refs s) (refs t) n each none))
@@ -145,7 +147,8 @@ stays_kept s t answer keeps unswept before = by keeps.swept
     by : (keeps.left ≡ s.deferred) ⊎ (may_have_swept (length s.deferred) answer (length t.deferred) ≡ true) → KeepsReferred t
     by (inl same) =
         still_kept s t keeps.creds
-        (subst (λ (left : List ℕ). All (Contains (refs t)) (refs (with_left s left))) same (refs_each (Contains (refs t)) (with_left s keeps.left) keeps.each)) before
+        (subst (λ (left : List ℕ). All (Contains (refs t)) (refs (with_left s left))) same (refs_each (Contains (refs t)) (with_left s keeps.left) keeps.each))
+        before
     by (inr swept) = let never : true ≡ false = sym swept ∙ unswept in cc
 
 -- so it is where the event dropped nothing

@@ -50,7 +50,9 @@ arg_back (Set id) h =
     let long = long_number id (id_number id h) in
     id_arg (decimal id) id (digits_no_dash (decimal id) (decimal_digits id long) (decimal_nonempty id long)) (id_back id h)
 
-want_parts : (r w x : Bool) → (r || w || x) ≡ true → (spelling.want_of (want_text (record { r = r; w = w; x = x })) ≡ Some (record { r = r; w = w; x = x })) × (is_plain (want_text (record { r = r; w = w; x = x })) ≡ true)
+want_parts : (r w x : Bool) → (r || w || x) ≡ true
+    → (spelling.want_of (want_text (record { r = r; w = w; x = x })) ≡ Some (record { r = r; w = w; x = x }))
+    × (is_plain (want_text (record { r = r; w = w; x = x })) ≡ true)
 unfolding spelling.wants
 want_parts true true true h = (refl, refl)
 want_parts true true false h = (refl, refl)

@@ -22,7 +22,8 @@ last_of_more n place digit out size within fits more e =
     let some = (fewer n place fits more).0 in
     let a : place - 1 + 1 ≡ place = omega arith in
     let b : place - 1 + 49 ≡ place + 49 - 1 = omega arith in
-    rw (a, b, drop-set out place digit (omega arith), e) (sym (digits_onto_step 16 false n (drop (place + 1) out) (place + 49) (omega arith) (λ z. omega arith)))
+    rw (a, b, drop-set out place digit (omega arith), e)
+    (sym (digits_onto_step 16 false n (drop (place + 1) out) (place + 49) (omega arith) (λ z. omega arith)))
 
 -- the first digit, put at its place
 pub first_digit : (n place digit : ℕ) (out : List ℕ) → length out ≡ 16 → place < 16 → n < 16 → digit ≡ digit_glyph false n

@@ -1,5 +1,6 @@
 -- A number's last digit behind those that were kept of it.
-use Rattle.std.proofs.Common.{◌≡◌, ℕ, ◌+◌, ◌-◌, ◌/◌, ◌%◌, ◌^◌, ◌<◌, ◌≤◌, List, [], ◌∷◌, ◌++◌, length, take, drop, set, sym, ap, ◌∙◌, refl, append_assoc, decimal, arith}
+use Rattle.std.proofs.Common.{◌≡◌, ℕ, ◌+◌, ◌-◌, ◌/◌, ◌%◌, ◌^◌, ◌<◌, ◌≤◌, List, [], ◌∷◌, ◌++◌, length, take, drop, set, sym, ap, ◌∙◌, refl, append_assoc}
+use Rattle.std.proofs.Common.{decimal, arith}
 use Rattle.std.proofs.Math.Seq.{drop_at, length-take-le}
 use Rattle.std.proofs.lemmas.List.{drop-drop, drop-append-le, drop-set}
 use Rattle.std.proofs.lemmas.Fmt.{decimal_digit, decimal_step}

@@ -1,5 +1,6 @@
 -- Which slots are live, by the flags.
-use Rattle.std.proofs.Common.{◌≡◌, ◌≢◌, ◌⊎◌, ℕ, zero, suc, ◌+◌, ◌<◌, ◌≤◌, ◌==◌, ◌||◌, Bool, true, false, not, cond, List, [], length, get_or, map, find, refl, sym, ap, ◌∙◌, subst, inl, inr, arith, nat_lt, Option, None, Some, is_some, slice_get}
+use Rattle.std.proofs.Common.{◌≡◌, ◌≢◌, ◌⊎◌, ℕ, zero, suc, ◌+◌, ◌<◌, ◌≤◌, ◌==◌, ◌||◌, Bool, true, false, not, cond, List, [], length, get_or, map, find, refl}
+use Rattle.std.proofs.Common.{sym, ap, ◌∙◌, subst, inl, inr, arith, nat_lt, Option, None, Some, is_some, slice_get}
 use Rattle.std.specs.List.{count_by, list_any, range_with_len}
 use Rattle.std.proofs.lemmas.List.FromFn.{get_or-map-range_with_len}
 use Rattle.std.proofs.lemmas.List.Folds.{list_any-append}
@@ -194,7 +195,8 @@ unfolding slots
 next-is {rows = rows} {sealed = sealed} {deferred = deferred} {kept = kept} {used = used} {late = late} {spare = spare} s slot takes =
     by_least (least_free_in (seen rows sealed deferred kept spare)) refl
   where
-    by_least : (o : Option ℕ) → least_free_in (seen rows sealed deferred kept spare) ≡ o → IsNext (seen rows sealed deferred kept spare) (row_at rows slot).late slot
+    by_least : (o : Option ℕ) → least_free_in (seen rows sealed deferred kept spare) ≡ o
+        → IsNext (seen rows sealed deferred kept spare) (row_at rows slot).late slot
     by_least (Some n) at =
         let t = seen rows sealed deferred kept spare in
         let here : least_free_in t ≡ Some slot = sym (ap least_free_in (room-free t (ap is_some at))) ∙ takes in

@@ -16,7 +16,8 @@ use Rattle.cred_model.proofs.Lists.{All-at, All-unmap, AllPairs-unmap, alone, at
 use Rattle.cred_sound.specs.Ledger.{IsClear, IsOrderly, SealsOf, ledger}
 use Rattle.cred_sound.proofs.Moves.{Apart}
 use Rattle.cred_sound.proofs.References.{IsFree, own_refs}
-use Rattle.cred_sound.proofs.Parts.{with_left, sealed_cred, Fits, Origin, Changes, TasksChange, FilesChange, HoldsChange, PreparedChange, InfosChange, SameCreds, Seals, SameTasks, Stays, SamePrepared, SameInfos}
+use Rattle.cred_sound.proofs.Parts.{with_left, sealed_cred, Fits, Origin, Changes, TasksChange, FilesChange, HoldsChange, PreparedChange, InfosChange}
+use Rattle.cred_sound.proofs.Parts.{SameCreds, Seals, SameTasks, Stays, SamePrepared, SameInfos}
 
 -- ---- the references that are left
 

@@ -1,5 +1,6 @@
 -- The words of a line, read one after another.
-use Rattle.std.proofs.Common.{◌≡◌, ◌≢◌, ℕ, zero, suc, ◌-◌, ◌<◌, ◌≤◌, ◌&&◌, Bool, true, false, not, List, [], ◌∷◌, ◌++◌, length, filter, take, drop, get_or, ◌==◌, cond, All, refl, sym, subst, ap, ◌∙◌, append_assoc, length-append, arith}
+use Rattle.std.proofs.Common.{◌≡◌, ◌≢◌, ℕ, zero, suc, ◌-◌, ◌<◌, ◌≤◌, ◌&&◌, Bool, true, false, not, List, [], ◌∷◌, ◌++◌, length, filter, take, drop, get_or}
+use Rattle.std.proofs.Common.{◌==◌, cond, All, refl, sym, subst, ap, ◌∙◌, append_assoc, length-append, arith}
 use Rattle.std.specs.List.{list_all, onto_first, slice_split}
 use Rattle.std.proofs.lemmas.Bool.Decides.{nat_tests}
 use Rattle.std.proofs.lemmas.List.{append-nil, take_rest, take-append-le, take_all}
@@ -47,7 +48,8 @@ kept : (word : List ℕ) (words : List (List ℕ)) → filter (λ w. not (length
 kept [] words = refl
 kept (b ∷ bs) words = let test : (suc (length bs) == 0) ≡ false = grind (arith, nat_tests) in rw test refl
 
-pub word_before : (bytes word : List ℕ) (end : ℕ) → word ≡ take end bytes → ((k : ℕ) → k < end → is_word_byte (get_or bytes k 0) ≡ true) → list_all is_word_byte word ≡ true
+pub word_before : (bytes word : List ℕ) (end : ℕ) → word ≡ take end bytes → ((k : ℕ) → k < end → is_word_byte (get_or bytes k 0) ≡ true)
+    → list_all is_word_byte word ≡ true
 word_before bytes word zero is good = rw is refl
 word_before [] word (suc end) is good = rw is refl
 word_before (b ∷ bs) word (suc end) is good =
@@ -117,7 +119,8 @@ at_first [] b some is = absurd (omega arith)
 at_first (x ∷ xs) b some is = rw (take_rest (x ∷ xs) 1) (ap (λ (y : ℕ). y ∷ xs) is)
 
 -- the first line is all that there is
-pub whole_line : (bytes behind : List ℕ) (words : List (List ℕ)) → 0 < length bytes → length behind < 1 → IsPast bytes behind words → lines_of bytes ≡ bytes ∷ lines_of behind
+pub whole_line : (bytes behind : List ℕ) (words : List (List ℕ)) → 0 < length bytes → length behind < 1 → IsPast bytes behind words
+    → lines_of bytes ≡ bytes ∷ lines_of behind
 whole_line [] behind words some none past = absurd (omega arith)
 whole_line (b ∷ bs) [] words some none past =
     let all : b ∷ bs ≡ past.prefix = past.joined ∙ append-nil past.prefix in
@@ -138,7 +141,8 @@ ended_line bytes behind words some is past =
     rw prefix (ap lines_of joined ∙ line_then past.prefix _ past.printable)
 
 -- what stands before the first line feed is the first line, or a part of it
-some_line : (b : ℕ) (texts : List (List ℕ)) (line : List ℕ) (lines : List (List ℕ)) → onto_first b texts ≡ line ∷ lines → is_printable_byte b ≡ false → is_printable line ≡ false
+some_line : (b : ℕ) (texts : List (List ℕ)) (line : List ℕ) (lines : List (List ℕ)) → onto_first b texts ≡ line ∷ lines → is_printable_byte b ≡ false
+    → is_printable line ≡ false
 some_line b [] line lines is bad = let e : line ≡ b ∷ [] = cc in rw (e, bad) refl
 some_line b (l ∷ ls) line lines is bad = let e : line ≡ b ∷ l = cc in rw (e, bad) refl
 
@@ -156,7 +160,8 @@ some_text (x ∷ xs) b more is = none (x == 10) (lines_of (xs ++ b ∷ more)) is
     none false [] is = absurd (cc)
     none false (l ∷ ls) is = absurd (cc)
 
-more_bytes : (x : ℕ) (texts : List (List ℕ)) (line : List ℕ) (lines : List (List ℕ)) → ((l : List ℕ) (ls : List (List ℕ)) → texts ≡ l ∷ ls → is_printable l ≡ false)
+more_bytes : (x : ℕ) (texts : List (List ℕ)) (line : List ℕ) (lines : List (List ℕ))
+    → ((l : List ℕ) (ls : List (List ℕ)) → texts ≡ l ∷ ls → is_printable l ≡ false)
     → texts ≢ [] → onto_first x texts ≡ line ∷ lines → is_printable line ≡ false
 more_bytes x [] line lines next some is = absurd (some refl)
 more_bytes x (l ∷ ls) line lines next some is =
@@ -168,7 +173,8 @@ more_bytes x (l ∷ ls) line lines next some is =
     falsely false = refl
 
 -- a byte that isn't printable stands in the first line, where no line ends before it
-unprintable : (prefix : List ℕ) (b : ℕ) (more line : List ℕ) (lines : List (List ℕ)) → is_printable prefix ≡ true → is_printable_byte b ≡ false → (b == 10) ≡ false
+unprintable : (prefix : List ℕ) (b : ℕ) (more line : List ℕ) (lines : List (List ℕ)) → is_printable prefix ≡ true → is_printable_byte b ≡ false
+    → (b == 10) ≡ false
     → lines_of (prefix ++ b ∷ more) ≡ line ∷ lines → is_printable line ≡ false
 unprintable [] b more line lines h bad inner is =
     some_line b (lines_of more) line lines (sym (ap (λ (t : Bool). cond t ([] ∷ lines_of more) (onto_first b (lines_of more))) inner) ∙ is) bad

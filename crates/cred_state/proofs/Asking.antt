@@ -58,7 +58,8 @@ module _ (before : Standing) (cells : TableId) (label : ℕ) (own : Numbered) (h
   were_asked query home =
       were_of before cells (Asking hold query None) (Ask label query) (ap (λ l. Ask l query) its) (ap (λ (h : Held). h.id) is) token sound out home standing
 
-  pub were_opened : (file : ℕ) (want : Want) (fd : ℕ) → AreHome (OpenFile label file want fd) before.words.out → WereLent before (Opening hold file want fd None)
+  pub were_opened : (file : ℕ) (want : Want) (fd : ℕ) → AreHome (OpenFile label file want fd) before.words.out
+      → WereLent before (Opening hold file want fd None)
   were_opened file want fd home =
       were_of before cells (Opening hold file want fd None) (OpenFile label file want fd) (ap (λ l. OpenFile l file want fd) its)
       (ap (λ (h : Held). h.id) is) token sound out home standing

@@ -1,5 +1,6 @@
 -- A label takes hold of a credential, and drops it.
-use Rattle.std.proofs.Common.{IfOk, Result, Ok, Err, ◌≡◌, ℕ, ◌<◌, ◌==◌, List, [], ◌∷◌, ◌++◌, find, position, remove, count_by, slice_get, Option, Some, ap, ◌∙◌, refl}
+use Rattle.std.proofs.Common.{IfOk, Result, Ok, Err, ◌≡◌, ℕ, ◌<◌, ◌==◌, List, [], ◌∷◌, ◌++◌, find, position, remove, count_by, slice_get, Option, Some, ap, ◌∙◌}
+use Rattle.std.proofs.Common.{refl}
 use Rattle.cred_record.specs.Credential.{Credential}
 use Rattle.cred_event.specs.declared.answer.Answer.{Answer}
 use Rattle.cred_event.specs.declared.answer.Answer.TheVariants.{Done}

@@ -55,7 +55,8 @@ pub has_process_of : (tasks : List Task) (task number : ℕ) {process : Option �
     → process ≡ option_map (λ t. t.process) (find (λ t. t.number == task) tasks) → IsSome process
 has_process_of tasks task number has is = by (find (λ t. t.number == task) tasks) has is
   where
-    by : {process : Option ℕ} (found : Option Task) → Some number ≡ option_map (λ t. t.current) found → process ≡ option_map (λ t. t.process) found → IsSome process
+    by : {process : Option ℕ} (found : Option Task) → Some number ≡ option_map (λ t. t.current) found → process ≡ option_map (λ t. t.process) found
+        → IsSome process
     by None has is = cc
     by (Some owner) has is = rw is refl
 

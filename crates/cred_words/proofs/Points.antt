@@ -1,5 +1,6 @@
 -- The rule, point by point.
-use Rattle.std.proofs.Common.{◌≡◌, ◌≢◌, ℕ, zero, suc, ◌<◌, inl, inr, List, [], ◌∷◌, Option, Some, None, Bool, true, false, if◌then◌else◌, refl, sym, ap, ◌∙◌, subst}
+use Rattle.std.proofs.Common.{◌≡◌, ◌≢◌, ℕ, zero, suc, ◌<◌, inl, inr, List, [], ◌∷◌, Option, Some, None, Bool, true, false, if◌then◌else◌, refl, sym, ap, ◌∙◌}
+use Rattle.std.proofs.Common.{subst}
 use Rattle.std.specs.Prelude.{slice_get}
 use Rattle.std.specs.List.{AllByRecursion}
 use Rattle.std.proofs.lemmas.Option.{same_Some}
@@ -9,7 +10,8 @@ use Rattle.cred_record.specs.Words.{credential_in}
 use Rattle.cred_record.proofs.WordLemmas.{words-are}
 use Rattle.cred_words.specs.Lists.{Has}
 use Rattle.cred_words.specs.Points.{tokens_of, AreDistinct, OneMaster, HaveLoans, FitSlots, SealedAreCredentials, HasPoints, RuleHasPoints}
-use Rattle.cred_words.specs.Words.{slot_of, ledger_with, as_loan, tokens_out_of, token_aside, IsNoMaster, Apart, AllApart, OwnTickets, WordsStand, FitsAs, LoanFits, NoWriterOn, KeepsWords}
+use Rattle.cred_words.specs.Words.{slot_of, ledger_with, as_loan, tokens_out_of, token_aside, IsNoMaster, Apart, AllApart, OwnTickets, WordsStand, FitsAs}
+use Rattle.cred_words.specs.Words.{LoanFits, NoWriterOn, KeepsWords}
 use Rattle.cred_words.specs.declared.view.Slot.{Slot}
 use Rattle.cred_words.specs.declared.view.Token.{Token}
 use Rattle.cred_words.specs.declared.view.Ledger.{Ledger}
@@ -57,7 +59,8 @@ same-out : (o : Option Token) (d : Ledger) (others : List View) → tokens_out_o
 same-out None d others = refl
 same-out (Some t) d others = refl
 
-no_other : (d : Ledger) (others : List View) → AllByRecursion IsNoMaster others → (i : ℕ) (e : Ledger) → slice_get (Master d ∷ others) i ≡ Some (Master e) → (i ≡ 0) × (e ≡ d)
+no_other : (d : Ledger) (others : List View) → AllByRecursion IsNoMaster others → (i : ℕ) (e : Ledger) → slice_get (Master d ∷ others) i ≡ Some (Master e)
+    → (i ≡ 0) × (e ≡ d)
 no_other d others h zero e at = let same : Master d ≡ Master e = same_Some _ _ at in (refl, cc)
 no_other d others h (suc i) e at = absurd (no-master-at others i e h at)
 
@@ -72,7 +75,8 @@ one-master words others d k = record {
   below = λ e m. has_all (λ e. e.ticket < d.next) d.loans e k.below_next m;
 }
 
-mine : (words : List ℕ) (others : List View) (d : Ledger) → (t : Token) → Has (tokens_of d (Master d ∷ others)) t → Has (tokens_out_of (token_aside d.kept ∷ others)) t
+mine : (words : List ℕ) (others : List View) (d : Ledger) → (t : Token) → Has (tokens_of d (Master d ∷ others)) t
+    → Has (tokens_out_of (token_aside d.kept ∷ others)) t
 mine words others d t m = subst (λ ts. Has ts t) (same-out d.kept d others) m
 
 have-loans : (words : List ℕ) (others : List View) (d : Ledger) → K words others d → HaveLoans (Master d ∷ others) d
@@ -91,7 +95,8 @@ writer-open slots e h w =
     let f : FitsAs true slots e = subst (λ b. FitsAs b slots e) w h in
     (slot_of f.0 false, f.1, refl)
 
-hold-sealed : (slots : List Slot) (e : Token) → LoanFits slots e → e.writes ≡ false → (x : Slot) × (slice_get slots e.slot ≡ Some x) × (x.sealed ≡ true) × (e.words ≡ x.words)
+hold-sealed : (slots : List Slot) (e : Token) → LoanFits slots e → e.writes ≡ false
+    → (x : Slot) × (slice_get slots e.slot ≡ Some x) × (x.sealed ≡ true) × (e.words ≡ x.words)
 hold-sealed slots e h w =
     let f : FitsAs false slots e = subst (λ b. FitsAs b slots e) w h in
     (slot_of e.words true, f, refl, refl)
@@ -129,5 +134,8 @@ has-points words others d k = record {
 
 pub rule_has_points : RuleHasPoints
 rule_has_points words views (slots, next, loans, kept, others, k) =
-    let d : Ledger = ledger_with slots next loans kept in
-    (d, subst (λ (vs : List View). HasPoints words vs d) (sym k.views_are) (has-points words others d (subst (λ (vs : List View). KeepsWords words vs slots next loans kept others) k.views_are k)))
+    let d : Ledger = ledger_with slots next loans kept in (
+      d,
+      subst (λ (vs : List View). HasPoints words vs d) (sym k.views_are)
+          (has-points words others d (subst (λ (vs : List View). KeepsWords words vs slots next loans kept others) k.views_are k)),
+    )

@@ -20,10 +20,13 @@ loop-rest-preserved c =
       size = length-set l.digits l.first c.digit_of.result ∙ l.invariant.size;
       within = omega arith;
       fits = one_less.1;
-      written = last_of_more l.rest l.first c.digit_of.result l.digits l.invariant.size l.invariant.within l.invariant.fits c.loop-rest-test.true c.digit_of.ensures ∙ l.invariant.written;
+      written =
+          last_of_more l.rest l.first c.digit_of.result l.digits l.invariant.size l.invariant.within l.invariant.fits c.loop-rest-test.true c.digit_of.ensures
+          ∙ l.invariant.written;
     }
 
 pub returns-clause-digits : goal.returns-clause-digits
 returns-clause-digits c =
     let l = c.loop-rest in
-    first_digit l.rest l.first c.digit_of-2.result l.digits l.invariant.size l.invariant.within c.loop-rest-test.false c.digit_of-2.ensures ∙ l.invariant.written
+    first_digit l.rest l.first c.digit_of-2.result l.digits l.invariant.size l.invariant.within c.loop-rest-test.false c.digit_of-2.ensures
+    ∙ l.invariant.written

@@ -41,10 +41,15 @@ returns-clause-entered c =
     let number : c.line-line.result ≡ c.args.course.line = c.line-line.ensures.value in
     let entry : ℕ → Answer → Entry = λ line answer. record { line = line; event = c.args.event; answer = answer } in
     let longer = c.push_reserved.ensures.items ∙ ap (λ (js : List Entry). js ++ entry c.line-line.result c.in-Ok-step.answer ∷ []) c.in-Ok.ensures.items in
-    let made = replays b.script b.state.state c.step.new.self.state b.journal.items (entry c.line-line.result c.in-Ok-step.answer) c.self.invariant.0 c.in-Ok-step.ensures.ok in
+    let made =
+    replays b.script b.state.state c.step.new.self.state b.journal.items (entry c.line-line.result c.in-Ok-step.answer) c.self.invariant.0
+    c.in-Ok-step.ensures.ok in
     rw (← c.self.view_is)
     (let grown = longer ∙ ap (λ (answer : Answer). b.journal.items ++ entry c.line-line.result answer ∷ []) (sym made.answers)
-    ∙ ap (λ (n : ℕ). b.journal.items ++ entry n (answer_of (record { script = b.script; journal = b.journal.items; cursors = b.cursors; ended = b.ended.items; outs = b.outs.items; words = b.state.words }) n c.args.event) ∷ []) number in
+    ∙ ap
+    (λ (n : ℕ). b.journal.items ++ entry n
+    (answer_of (record { script = b.script; journal = b.journal.items; cursors = b.cursors; ended = b.ended.items; outs = b.outs.items; words = b.state.words }) n c.args.event) ∷ [])
+    number in
     λ k. record { script = b.script; journal = grown k; cursors = b.cursors; ended = b.ended.items; outs = b.outs.items; words = c.step.ensures.words k })
 
 pub returns-clause-passes : goal.returns-clause-passes
@@ -53,13 +58,16 @@ returns-clause-passes c =
     let number : c.line-line.result ≡ c.args.course.line = c.line-line.ensures.value in
     let entry : Entry = record { line = c.line-line.result; event = c.args.event; answer = c.in-Ok-step.answer } in
     let made = replays b.script b.state.state c.step.new.self.state b.journal.items entry c.self.invariant.0 c.in-Ok-step.ensures.ok in
-    let book : Recorded = record { script = b.script; journal = b.journal.items; cursors = b.cursors; ended = b.ended.items; outs = b.outs.items; words = b.state.words } in
+    let book : Recorded =
+    record { script = b.script; journal = b.journal.items; cursors = b.cursors; ended = b.ended.items; outs = b.outs.items; words = b.state.words } in
     let answer : c.in-Ok-step.answer ≡ answer_of book c.args.course.line c.args.event
     = sym made.answers ∙ ap (λ (n : ℕ). answer_of book n c.args.event) number in
     let passes = subst
-    (λ (a : Answer). IfSome (line_at b.script c.args.course.line) (λ line. MovesOnTo b.script c.args.lane (model.after line.content c.args.course a) c.cursor_after-cursor.result))
+    (λ (a : Answer). IfSome (line_at b.script c.args.course.line)
+    (λ line. MovesOnTo b.script c.args.lane (model.after line.content c.args.course a) c.cursor_after-cursor.result))
     answer c.cursor_after-cursor.ensures in
     subst
     (λ (r : Recorded). IfSome (line_at r.script c.args.course.line)
-    (λ line. MovesOnTo r.script c.args.lane (model.after line.content c.args.course (answer_of r c.args.course.line c.args.event)) c.cursor_after-cursor.result))
+    (λ line. MovesOnTo r.script c.args.lane (model.after line.content c.args.course (answer_of r c.args.course.line c.args.event))
+    c.cursor_after-cursor.result))
     c.self.view_is passes

@@ -46,7 +46,9 @@ next_event-requires c =
     let here : due_of book.cursors c.args.lane ≡ Some c.in-Some.course
     = due_found _ book c.args.lane _ _ c.self.view_is c.due.ensures c.in-Some.is in
     record {
-      line = subst (λ (b : Recorded). IsOfLine b.script c.in-Some.course) (sym c.self.view_is) (due_of_line book c.args.lane c.in-Some.course c.requires.stands here);
+      line =
+          subst (λ (b : Recorded). IsOfLine b.script c.in-Some.course) (sym c.self.view_is)
+          (due_of_line book c.args.lane c.in-Some.course c.requires.stands here);
     }
 
 pub hand_out-requires-clause-home : goal.hand_out-requires-clause-home

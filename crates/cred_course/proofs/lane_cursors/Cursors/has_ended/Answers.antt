@@ -8,5 +8,6 @@ use Rattle.cred_course.proofs.lane_cursors.Cursors.has_ended.Goals as goal
 
 pub returns : goal.returns
 returns c =
-    all_from_yields_List (λ (cursor : Option Course). is_none cursor) _ _ c.all.result c.all.ensures.ran (YieldsList-from_slice _ c.iter.ensures.rest) (λ x b q k. search (rules, tests))
+    all_from_yields_List (λ (cursor : Option Course). is_none cursor) _ _ c.all.result c.all.ensures.ran (YieldsList-from_slice _ c.iter.ensures.rest)
+    (λ x b q k. search (rules, tests))
     ∙ ap (list_all (λ (cursor : Option Course). is_none cursor)) (c.deref.ensures.value ∙ c.self.view_is)

@@ -20,8 +20,13 @@ invariant_of-self c =
     let e = c.lend_writer.ensures.master in
     let n = count_is in
     let small = c.requires.within in
-    let many = i.2 in
-    (ap (λ (d : Ledger). d.kept) e.1 ∙ i.0, subst AreSlots (sym (ap (λ (d : Ledger). d.slots) e.1)) (after_writer c.self.inside.inner.ledger.slots c.args.slot (omega arith) i.1).0, ap (λ (d : Ledger). length d.slots) e.1 ∙ length-set _ _ _ ∙ i.2)
+    let many = i.2 in (
+      ap (λ (d : Ledger). d.kept) e.1
+          ∙ i.0,
+      subst AreSlots (sym (ap (λ (d : Ledger). d.slots) e.1)) (after_writer c.self.inside.inner.ledger.slots c.args.slot (omega arith) i.1).0,
+      ap (λ (d : Ledger). length d.slots) e.1
+          ∙ length-set _ _ _ ∙ i.2,
+    )
 
 pub invariant_of-result : goal.invariant_of-result
 invariant_of-result c =

@@ -11,19 +11,25 @@ use Rattle.cred_hold.proofs.master.Master.set_like.Goals as goal
 pub put_like-requires-clause-sealed : goal.put_like-requires-clause-sealed
 put_like-requires-clause-sealed c =
     let s = c.requires.sealed in
-    let there = ap (λ (xs : List (Option Credential)). slice_get xs c.args.from) c.lend_writer-writer.ensures.slots ∙ get_set_else c.args.self.now.slots c.args.from c.args.slot None c.requires.apart in
+    let there =
+    ap (λ (xs : List (Option Credential)). slice_get xs c.args.from) c.lend_writer-writer.ensures.slots ∙ get_set_else c.args.self.now.slots c.args.from
+    c.args.slot None c.requires.apart in
     (s.0, there ∙ s.1)
 
 pub put_like-requires-clause-valid : goal.put_like-requires-clause-valid
 put_like-requires-clause-valid c d at =
-    let there = ap (λ (xs : List (Option Credential)). slice_get xs c.args.from) c.lend_writer-writer.ensures.slots ∙ get_set_else c.args.self.now.slots c.args.from c.args.slot None c.requires.apart in
+    let there =
+    ap (λ (xs : List (Option Credential)). slice_get xs c.args.from) c.lend_writer-writer.ensures.slots ∙ get_set_else c.args.self.now.slots c.args.from
+    c.args.slot None c.requires.apart in
     c.requires.valid d (sym there ∙ at)
 
 pub take_back-requires : goal.take_back-requires
 take_back-requires c =
     let lent = c.lend_writer-writer.ensures in
     let s = c.requires.sealed in
-    let there = ap (λ (xs : List (Option Credential)). slice_get xs c.args.from) lent.slots ∙ get_set_else c.args.self.now.slots c.args.from c.args.slot None c.requires.apart in
+    let there =
+    ap (λ (xs : List (Option Credential)). slice_get xs c.args.from) lent.slots ∙ get_set_else c.args.self.now.slots c.args.from c.args.slot None
+    c.requires.apart in
     let putting = c.put_like.ensures.put s.0 (there ∙ s.1) in
     record {
       own = (
@@ -35,7 +41,9 @@ take_back-requires c =
 pub returns-clause-made : goal.returns-clause-made
 returns-clause-made c d at =
     let lent = c.lend_writer-writer.ensures in
-    let there = ap (λ (xs : List (Option Credential)). slice_get xs c.args.from) lent.slots ∙ get_set_else c.args.self.now.slots c.args.from c.args.slot None c.requires.apart in
+    let there =
+    ap (λ (xs : List (Option Credential)). slice_get xs c.args.from) lent.slots ∙ get_set_else c.args.self.now.slots c.args.from c.args.slot None
+    c.requires.apart in
     let putting = c.put_like.ensures.put d (there ∙ at) in
     let same = c.put_like.ensures.same in
     let label = ap (λ (w : Written). w.label) putting ∙ lent.writer.1 in

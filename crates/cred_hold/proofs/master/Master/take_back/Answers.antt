@@ -30,7 +30,9 @@ returns-clause-slot c =
     let t = c.writer.inside.inner.token in
     let put = c.writer.inside.put in
     let slots = c.self.inside.inner.ledger.slots in
-    let told = subst (λ (d : Ledger). IfSome d.kept (λ t. IsTaken d.loans (as_loan t) (without_ticket t.ticket d.loans) × LoanFits d.slots (as_loan t))) back c.load_after_return.ensures.taken in
+    let told =
+    subst (λ (d : Ledger). IfSome d.kept (λ t. IsTaken d.loans (as_loan t) (without_ticket t.ticket d.loans) × LoanFits d.slots (as_loan t))) back
+    c.load_after_return.ensures.taken in
     let now = subst (λ (d : Ledger). IfSome d.kept (λ t. c.load_after_return.new.self.ledger ≡ after_back d t put)) back c.load_after_return.ensures.master.1 in
     let there = slot-there slots t i.1 told.1 in
     (λ k. slice_get (map slot_seen (now k).slots) (sym c.writer.view_is k).slot) ∙
@@ -44,8 +46,12 @@ pub returns-clause-taken : goal.returns-clause-taken
 returns-clause-taken c =
     let back = c.return_writer.ensures.1 in
     let t = c.writer.inside.inner.token in
-    let told = subst (λ (d : Ledger). IfSome d.kept (λ t. IsTaken d.loans (as_loan t) (without_ticket t.ticket d.loans) × LoanFits d.slots (as_loan t))) back c.load_after_return.ensures.taken in
-    let now = subst (λ (d : Ledger). IfSome d.kept (λ t. c.load_after_return.new.self.ledger ≡ after_back d t c.writer.inside.put)) back c.load_after_return.ensures.master.1 in
+    let told =
+    subst (λ (d : Ledger). IfSome d.kept (λ t. IsTaken d.loans (as_loan t) (without_ticket t.ticket d.loans) × LoanFits d.slots (as_loan t))) back
+    c.load_after_return.ensures.taken in
+    let now =
+    subst (λ (d : Ledger). IfSome d.kept (λ t. c.load_after_return.new.self.ledger ≡ after_back d t c.writer.inside.put)) back
+    c.load_after_return.ensures.master.1 in
     let P : List Loan × Loan × List Loan → Type 0 = λ x. IsTaken x.0 x.1 x.2 in
     let one = writer-seen t c.writer.invariant.1 ∙ ap (λ w. loan w.label w.slot None) c.writer.view_is in
     let old = ap (λ m. m.loans) c.self.view_is in

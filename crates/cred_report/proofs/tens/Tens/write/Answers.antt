@@ -13,4 +13,5 @@ returns-clause-written c =
       | then-self-tens w ↦ w.self-is ∙ w.keep.ensures
       | else-self-tens w ↦ w.self-is ∙ sym c.self.view_is ∙ w.if-self-tens.false
     ] in
-    more_digits c.args.number c.if-self-tens.self c.args.end c.put.result c.args.buf.now c.put.new.buf (omega arith) (omega arith) is (omega arith) (omega arith) c.put.ensures.written
+    more_digits c.args.number c.if-self-tens.self c.args.end c.put.result c.args.buf.now c.put.new.buf (omega arith) (omega arith) is (omega arith)
+    (omega arith) c.put.ensures.written

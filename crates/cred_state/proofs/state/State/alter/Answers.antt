@@ -23,35 +23,45 @@ pub enter_alter-requires-clause-sound : goal.enter_alter-requires-clause-sound
 enter_alter-requires-clause-sound c =
     let s = c.args.self.now in
     let its = rw c.change_ns-ns.ensures.same at c.in-Some.ensures in
-    let were = were_altered s c.args.cells.now c.args.label c.args.change c.in-Some.base c.in-Some.writer its.kept c.requires.sound c.requires.out c.requires.home its.standing in
+    let were =
+    were_altered s c.args.cells.now c.args.label c.args.change c.in-Some.base c.in-Some.writer its.kept c.requires.sound c.requires.out c.requires.home
+    its.standing in
     rw its.lent (lent_sound were)
 
 pub enter_alter-requires-clause-out : goal.enter_alter-requires-clause-out
 enter_alter-requires-clause-out c =
     let s = c.args.self.now in
     let its = rw c.change_ns-ns.ensures.same at c.in-Some.ensures in
-    let were = were_altered s c.args.cells.now c.args.label c.args.change c.in-Some.base c.in-Some.writer its.kept c.requires.sound c.requires.out c.requires.home its.standing in
+    let were =
+    were_altered s c.args.cells.now c.args.label c.args.change c.in-Some.base c.in-Some.writer its.kept c.requires.sound c.requires.out c.requires.home
+    its.standing in
     rw its.lent (lent_are were)
 
 pub put_earlier-requires-clause-sound : goal.put_earlier-requires-clause-sound
 put_earlier-requires-clause-sound c =
     let s = c.args.self.now in
     let its = rw c.change_ns-ns.ensures.same at c.in-Some.ensures in
-    let were = were_altered s c.args.cells.now c.args.label c.args.change c.in-Some.base c.in-Some.writer its.kept c.requires.sound c.requires.out c.requires.home its.standing in
+    let were =
+    were_altered s c.args.cells.now c.args.label c.args.change c.in-Some.base c.in-Some.writer its.kept c.requires.sound c.requires.out c.requires.home
+    its.standing in
     rw its.lent (lent_sound were)
 
 pub put_earlier-requires-clause-out : goal.put_earlier-requires-clause-out
 put_earlier-requires-clause-out c =
     let s = c.args.self.now in
     let its = rw c.change_ns-ns.ensures.same at c.in-Some.ensures in
-    let were = were_altered s c.args.cells.now c.args.label c.args.change c.in-Some.base c.in-Some.writer its.kept c.requires.sound c.requires.out c.requires.home its.standing in
+    let were =
+    were_altered s c.args.cells.now c.args.label c.args.change c.in-Some.base c.in-Some.writer its.kept c.requires.sound c.requires.out c.requires.home
+    its.standing in
     rw its.lent (lent_are were)
 
 pub take_hold_back-requires-clause-apart : goal.take_hold_back-requires-clause-apart
 take_hold_back-requires-clause-apart c =
     let s = c.args.self.now in
     let its = rw c.change_ns-ns.ensures.same at c.in-Some.ensures in
-    let were = were_altered s c.args.cells.now c.args.label c.args.change c.in-Some.base c.in-Some.writer its.kept c.requires.sound c.requires.out c.requires.home its.standing in
+    let were =
+    were_altered s c.args.cells.now c.args.label c.args.change c.in-Some.base c.in-Some.writer its.kept c.requires.sound c.requires.out c.requires.home
+    its.standing in
     let mid = c.lend_kept.new.self in
     let sound : IsSound mid.state = rw its.lent (lent_sound were) in
     let out : AreOut mid.state mid.words.out = rw its.lent (lent_are were) in
@@ -72,7 +82,8 @@ returns-in-Ok-clause-ok c =
     let made = rw (c.executed_file-file.ensures, c.infos.ensures, c.chain_of-chain.ensures) at c.in-Ok.ensures.made in
     let ok = rw c.in-Ok.ensures.base at c.enter_alter.ensures.made in
     let ok = rw (its.lent, named) at (ok script _ (chain, made)) in
-    does_like script (with_kept s base c.in-Some.writer).state s.state 0 (Alter label change) c.enter_alter.result c.enter_alter.new.self.state (lent_like were) ok
+    does_like script (with_kept s base c.in-Some.writer).state s.state 0 (Alter label change) c.enter_alter.result c.enter_alter.new.self.state (lent_like were)
+    ok
 
 pub returns-in-Ok-clause-words : goal.returns-in-Ok-clause-words
 returns-in-Ok-clause-words c =

@@ -34,7 +34,8 @@ pub add-requires-clause-referred : goal.add-requires-clause-referred
 add-requires-clause-referred c =
     let t = c.self.inside in
     let may = rw (← c.self.view_is) at c.in-Ok.ensures in
-    let held : c.claim.new.self.held ≡ t.slots.held = ap (λ (x : Table). x.held) c.claim.ensures.table ∙ ap (λ (x : Table). x.held) c.in_ok-reserve.ensures.ok in
+    let held : c.claim.new.self.held ≡ t.slots.held =
+    ap (λ (x : Table). x.held) c.claim.ensures.table ∙ ap (λ (x : Table). x.held) c.in_ok-reserve.ensures.ok in
     held_is_referred c.claim.new.self c.in-Ok.base
     (rw (held, ← may.is) (hold-held_found c.self.invariant.0 c.args.hold may.base may.has))
 
