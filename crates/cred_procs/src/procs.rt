@@ -49,7 +49,7 @@ impl Model for Procs {
 /// The tasks that ended, in the order in which they were created, and the numbers that they
 /// referred to, task by task: the current credential's first and then those of the overrides, the
 /// newest first. A number stands there once for each place that referred to it.
-#[derive(Drop, Debug)]
+#[derive(Drop)]
 pub struct Ended {
     pub tasks: TaskList,
     pub numbers: CredNumbers,
