@@ -72,11 +72,11 @@ row script entries 'proved s, KiB' 'plain s, KiB' 'mark, KiB' \
 for name in calls changes holds checks broadcast; do
   "$proved" run < "$dir/$name" > "$dir/report"
   case $name in
-    calls) mark=39.5 ;;
-    changes) mark=71.9 ;;
-    holds) mark=21.1 ;;
-    checks) mark=49.7 ;;
-    broadcast) mark=123 ;;
+    calls) mark=41.3 ;;
+    changes) mark=73.5 ;;
+    holds) mark=21.7 ;;
+    checks) mark=51.2 ;;
+    broadcast) mark=122.4 ;;
   esac
   ours=$(seconds "$proved" "$name")
   theirs=- a=0 b=0

@@ -5,7 +5,8 @@ where the lock is free is a matter of types: to decide under it, the kernel has 
 that it hasn't got. The meetings of `cred_rows` (src/tests/meetings.rt) show all three. Here each
 wrong body is put into a copy of the crates, and the meetings are held there, unproved, by `rt try
 --test`: one of them at least must fail. First they are held by the crates as they are, and must
-pass. The first that goes otherwise is told, with status 1.
+pass. A worker that decides under the lock by what it has is no program: the compiler must say why.
+The first that goes otherwise is told, with status 1.
 """
 import argparse
 import re
@@ -35,11 +36,13 @@ PROGRAM = "crates/cred_program/src/program.rt"
 
 @dataclass(frozen=True)
 class Wrong:
-    """A wrong body: what it does, and in which files which text becomes which."""
+    """A wrong body: what it does, in which files which text becomes which, and what the compiler
+    says of it, if it is no program."""
 
     name: str
     does: str
     edits: tuple
+    said: str = ""
 
 
 # What each is made of: the worker's parallel map, the decision, and what `lanes` calls.
@@ -136,16 +139,31 @@ GUARD_DECIDES = """\
 
 """
 STEPPED = "    let step = advance_some(&mut guard)?;\n"
-STEPPED_AND_DECIDED = """\
+GUARD_CALL = "guard.decide(alloc, gate, work)"
+STEPPED_AND_DECIDED = f"""\
     let mut step = advance_some(&mut guard)?;
-    if let Step::Work(work) = &mut step {
-        let Ok(()) = guard.decide(alloc, gate, work) else {
+    if let Step::Work(work) = &mut step {{
+        let Ok(()) = {GUARD_CALL} else {{
             drop(guard);
             drop(step);
             return Err(NoMemory);
-        };
-    }
+        }};
+    }}
 """
+# The turn is in the guard.
+OWN_CALL = "decide(alloc, kernel.cells(), &cred_kernel::NoGate, &turn, work)"
+LOCKED = f"""\
+            Step::Work(work) => {{
+                let guard = kernel.lock(rt, turn);
+                let decided = {CALLED};
+                turn = guard.release();
+                let Ok(()) = decided else {{
+                    drop(step);
+                    return Err(NoMemory);
+                }};
+            }}
+"""
+MOVED = "error[borrow-e0382]: use of moved value: `turn`"
 THEN_RUN = """\
 /// Runs the lanes as threads, and then all lines in order: that report is written.
 fn lanes_then_run<R: Threads + Wait + Sync, S: Source, K: Sink, G: Gate + Sync>(
@@ -221,6 +239,22 @@ BODIES = (
             (WORKERS, STEPPED, STEPPED_AND_DECIDED),
         ),
     ),
+    Wrong(
+        "in-go-on",
+        "a worker decides before it releases the lock, by the turn that it gave for it",
+        (
+            (WORKERS, "turn, step)?;", "turn, step, alloc)?;"),
+            (WORKERS, "    last: Step,\n", "    last: Step,\n    alloc: Global,\n"),
+            (WORKERS, STEPPED, STEPPED_AND_DECIDED.replace(GUARD_CALL, OWN_CALL)),
+        ),
+        MOVED,
+    ),
+    Wrong(
+        "got-to-decide",
+        "a worker gets the lock to decide",
+        ((WORKERS, DECIDED, LOCKED),),
+        MOVED,
+    ),
     Wrong("no-gate", "a worker comes to no gate", decides_as(UNSTOPPED)),
     Wrong("no-gate-of-signals", "none for signals", passes_over("Signalling")),
     Wrong("no-gate-of-files", "none for files that are opened", passes_over("Opening")),
@@ -278,8 +312,9 @@ def planted(folder, body):
         (folder / file).write_text(text.replace(old, new))
 
 
-def held(folder):
-    """Holds the meetings: what is told of the one that fails, or nothing where all pass."""
+def held(folder, said):
+    """Holds the meetings: what is told of the one that fails, or nothing where all pass. Where the
+    compiler is to say something, that is told."""
     words = ["rt", "try", "--test", "--seconds", str(LIMIT)]
     done = subprocess.run(
         words,
@@ -291,6 +326,10 @@ def held(folder):
         errors="replace",
         check=False,
     )
+    if said and said not in done.stdout:
+        raise Failure(f"the compiler doesn't say {said}:\n{done.stdout[-2000:]}")
+    if said:
+        return said
     ended = re.search(rf"^test {TEST} \.\.\. (ok|FAILED)(?:\n *(.*))?", done.stdout, re.M)
     if not ended:
         raise Failure(f"the meetings weren't held:\n{done.stdout[-2000:]}")
@@ -304,7 +343,7 @@ def tried(body):
         copied(folder)
         if body:
             planted(folder, body)
-        return held(folder)
+        return held(folder, body.said if body else "")
 
 
 def given():

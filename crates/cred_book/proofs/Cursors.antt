@@ -7,6 +7,7 @@ use Rattle.std.proofs.lemmas.List.{length-replicate, length-set}
 use Rattle.std.proofs.lemmas.List.Sums.{sum_by-set}
 use Rattle.std.proofs.lemmas.Option.{get_or_from_slice_get, slice_get_within}
 use Rattle.cred_ids.specs.Limits.{LINE_LIMIT}
+use Rattle.cred_record.specs.Credential.{Credential}
 use Rattle.cred_event.specs.declared.event.Event.{Event}
 use Rattle.cred_event.specs.declared.entry.Entry.{Entry}
 use Rattle.cred_model.specs.FileChanges.{FixesFiles}
@@ -91,11 +92,11 @@ same_or_next was is false same = inl (omega (arith, same))
 
 -- the numbers after it
 entry_counts : {book : Recorded} {lane : ℕ} {course : Course} {event : Event} {to : Option Course} (goes : GoesOn book lane course event to)
-    (outs : List (Option ℕ)) (words : Words) → IsNowOut book.outs outs lane None
+    (outs : List (Option ℕ)) (words : Words) (places : List (Option Credential)) → IsNowOut book.outs outs lane None
     → IsLaneCursor book.script (grown book lane course event to) lane to
     → AreCursors book.script (grown book lane course event to) (set book.cursors lane to)
-    → HasEntered book (after book lane course event to outs words) lane (count_of (needs_tokens (replay book.script book.journal) event))
-entry_counts {book = book} {lane = lane} {course = course} {event = event} {to = to} goes outs words out own now =
+    → HasEntered book (after book lane course event to outs words places) lane (count_of (needs_tokens (replay book.script book.journal) event))
+entry_counts {book = book} {lane = lane} {course = course} {event = event} {to = to} goes outs words places out own now =
     let entry : Entry = entry_of book.script book.journal (record { line = course.line; event = event }) in
     let at = stands_at book.script book.journal book.cursors lane course goes.stands.cursors goes.due in
     let of = lane_of_course book.script book.journal lane course at in
@@ -119,10 +120,10 @@ lane_has_out book lane course stands due =
     omega (arith, within, stands.outs)
 
 pub moves : {book : Recorded} {lane : ℕ} {course : Course} {event : Event} {to : Option Course} (goes : GoesOn book lane course event to)
-    (outs : List (Option ℕ)) (words : Words) → IsNowOut book.outs outs lane None
+    (outs : List (Option ℕ)) (words : Words) (places : List (Option Credential)) → IsNowOut book.outs outs lane None
     → ((test : token.Loan → Bool) → count_by test book.words.out ≡ count_by test (lane_tokens book lane) + count_by test words.out)
-    → Moves book (after book lane course event to outs words) lane (count_of (needs_tokens (replay book.script book.journal) event))
-moves {book = book} {lane = lane} {course = course} {event = event} {to = to} goes outs words out back =
+    → Moves book (after book lane course event to outs words places) lane (count_of (needs_tokens (replay book.script book.journal) event))
+moves {book = book} {lane = lane} {course = course} {event = event} {to = to} goes outs words places out back =
     let script = book.script in
     let stands = goes.stands in
     let entry : Entry = entry_of script book.journal (record { line = course.line; event = event }) in
@@ -143,14 +144,14 @@ moves {book = book} {lane = lane} {course = course} {event = event} {to = to} go
         fixed = stands.fixed;
         named = stands.named;
         outs = out.long ∙ stands.outs;
-        works = works_stay goes outs words out;
-        lent = lent_stays goes outs words out (lane_has_out book lane course stands goes.due) back;
+        works = works_stay goes outs words places out;
+        lent = lent_stays goes outs words places out (lane_has_out book lane course stands goes.due) back;
       };
       entry = entry;
       next = comes;
       entered = refl;
       falls = entry_falls script book.journal book.cursors lane course event to stands.cursors goes.due goes.has goes.passes;
-      counts = entry_counts goes outs words out own now;
+      counts = entry_counts goes outs words places out own now;
     }
 
 none_out : (outs : List (Option ℕ)) (n lane : ℕ) → outs ≡ replicate n None → out_in outs lane ≡ None

@@ -1,5 +1,5 @@
 -- A lane's work goes out, and comes back decided.
-use Rattle.std.proofs.Common.{◌≡◌, ◌≢◌, ℕ, ◌+◌, ◌<◌, Bool, true, false, [], ◌∷◌, ◌++◌, set, Option, Some, None, refl, sym, ap, ◌∙◌, subst, arith}
+use Rattle.std.proofs.Common.{◌≡◌, ◌≢◌, ℕ, ◌+◌, ◌<◌, Bool, true, false, List, [], ◌∷◌, ◌++◌, set, Option, Some, None, refl, sym, ap, ◌∙◌, subst, arith}
 use Rattle.std.specs.List.{count_by}
 use Rattle.std.specs.Option.{IfSome, option_and_then, option_map_or}
 use Rattle.cred_event.specs.declared.content.Stage.{Stage}
@@ -171,23 +171,27 @@ pub record EntersMore (before after : Recorded) (lane : ℕ) : Type 0 where
   pub counts : HasEntered before after lane 0
   pub files : lane ≢ 0 → infos_in after ≡ infos_in before
 
+-- the book after an entry, where this stands in its slots
+abbrev pub put_in : Recorded → ℕ → Event → List (Option Credential) → Recorded
+put_in book line event places = record (with_event book line event) { places = places }
+
 -- an event that waits for no decision
 pub enters_more : {book : Recorded} {lane : ℕ} {course : Course} {event : Event} {to : Option Course} (goes : GoesOn book lane course event to)
-    → out_of book lane ≡ None → needs_tokens (replay book.script book.journal) event ≡ false
-    → EntersMore book (moved_on (with_event book course.line event) lane course.line to) lane
-enters_more {book = book} {lane = lane} {course = course} {event = event} {to = to} goes home free =
+    (places : List (Option Credential)) → out_of book lane ≡ None → needs_tokens (replay book.script book.journal) event ≡ false
+    → EntersMore book (moved_on (put_in book course.line event places) lane course.line to) lane
+enters_more {book = book} {lane = lane} {course = course} {event = event} {to = to} goes places home free =
     let none : (test : Loan → Bool) → count_by test book.words.out ≡ count_by test (lane_tokens book lane) + count_by test book.words.out
     = λ test. let own : count_by test (lane_tokens book lane) ≡ 0 = ap (count_by test) (lane_tokens_none book lane home) in omega (arith, own) in
-    let m = moves goes book.outs book.words (out_same book.outs lane None home) none in
+    let m = moves goes book.outs book.words places (out_same book.outs lane None home) none in
     record {
       script = refl;
       words = refl;
       stands = m.stands;
-      made = makes_more book (moved_on (with_event book course.line event) lane course.line to) lane (next book.script book.journal lane)
+      made = makes_more book (moved_on (put_in book course.line event places) lane course.line to) lane (next book.script book.journal lane)
           (entry_of book.script book.journal (record { line = course.line; event = event }))
           (next_some book.script book.journal book.cursors lane course event goes.stands.cursors goes.due goes.has) free refl refl refl;
       falls = m.falls;
-      counts = subst (λ b. HasEntered book (moved_on (with_event book course.line event) lane course.line to) lane (count_of b)) free m.counts;
+      counts = subst (λ b. HasEntered book (moved_on (put_in book course.line event places) lane course.line to) lane (count_of b)) free m.counts;
       files = files_stay goes;
     }
 
@@ -228,8 +232,8 @@ makes_back before after lane comes made work is line event grown outs words =
     rw is (line, event, grown, record { outs = outs; words = words })
 
 -- the book after the entry of the work
-abbrev pub back_in : Recorded → ℕ → Event → Words → Recorded
-back_in book line event words = record (with_event book line event) { words = words }
+abbrev pub back_in : Recorded → ℕ → Event → Words → List (Option Credential) → Recorded
+back_in book line event words places = record (put_in book line event places) { words = words }
 
 -- and after the work is no longer out
 abbrev pub at_home : Recorded → ℕ → Recorded
@@ -287,27 +291,21 @@ comes_back book entered lane course to work stands are is due back passes =
     now : IsNowOut book.outs (set book.outs lane None) lane None
     now = out_set book.outs lane None (lane_has_out book lane course stands due)
 
-    m : Moves book (after book lane course (its_event work.lent) to (set book.outs lane None) entered.words) lane
-        (count_of (needs_tokens (replay book.script book.journal) (its_event work.lent)))
-    m = moves goes (set book.outs lane None) entered.words now returned
+    m : Moves book (after book lane course (its_event work.lent) to (set book.outs lane None) entered.words entered.places) lane (count_of (needs_tokens (replay book.script book.journal) (its_event work.lent)))
+    m = moves goes (set book.outs lane None) entered.words entered.places now returned
 
-    entered_is : entered ≡ back_in book course.line (its_event work.lent) entered.words
-    entered_is = back.same ∙ ap (λ n. back_in book n (its_event work.lent) entered.words) (sym line)
+    entered_is : entered ≡ back_in book course.line (its_event work.lent) entered.words entered.places
+    entered_is = back.same ∙ ap (λ n. back_in book n (its_event work.lent) entered.words entered.places) (sym line)
 
-    made : ComesBack book (moved_on (at_home (back_in book course.line (its_event work.lent) entered.words) lane) lane course.line to) lane work
+    made : ComesBack book (moved_on (at_home (back_in book course.line (its_event work.lent) entered.words entered.places) lane) lane course.line to) lane work
     made = record {
       script = refl;
       cells = back.words.id;
       stands = m.stands;
-      made =
-          makes_back book (moved_on (at_home (back_in book course.line (its_event work.lent) entered.words) lane) lane course.line to) lane
-          (next book.script book.journal lane)
+      made = makes_back book (moved_on (at_home (back_in book course.line (its_event work.lent) entered.words entered.places) lane) lane course.line to) lane (next book.script book.journal lane)
           (entry_of book.script book.journal (record { line = course.line; event = (its_event work.lent) })) work
           (next_some book.script book.journal book.cursors lane course (its_event work.lent) stands.cursors due goes.has) line refl refl refl back.words;
       falls = m.falls;
-      counts =
-          subst
-          (λ b. HasEntered book (moved_on (at_home (back_in book course.line (its_event work.lent) entered.words) lane) lane course.line to) lane (count_of b))
-          waits m.counts;
+      counts = subst (λ b. HasEntered book (moved_on (at_home (back_in book course.line (its_event work.lent) entered.words entered.places) lane) lane course.line to) lane (count_of b)) waits m.counts;
       files = files_stay goes;
     }

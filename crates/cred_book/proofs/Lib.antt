@@ -14,3 +14,4 @@ pub mod Handed
 pub mod ListAnswers
 pub mod Entered
 pub mod Ends
+pub mod Places

@@ -6,6 +6,7 @@ use Rattle.std.specs.Option.{IfSome, option_and_then}
 use Rattle.std.proofs.lemmas.Bool.{cases_eq}
 use Rattle.std.proofs.lemmas.List.{length-set}
 use Rattle.std.proofs.lemmas.List.Elements.{All-contains_itself, All-weaker}
+use Rattle.cred_record.specs.Credential.{Credential}
 use Rattle.cred_event.specs.declared.event.Event.{Event}
 use Rattle.cred_event.specs.declared.entry.Entry as entered
 use Rattle.cred_model.specs.State.{State}
@@ -89,8 +90,9 @@ module _ (book : Recorded) (lane : ℕ) (course : Course) (event : Event) (to : 
   grown = book.journal ++ made ∷ []
 
   -- the book after it, of which these works are out
-  abbrev pub after : List (Option ℕ) → Words → Recorded
-  after outs words = record (moved_on (with_event book course.line event) lane course.line to) { outs = outs; words = words }
+  abbrev pub after : List (Option ℕ) → Words → List (Option Credential) → Recorded
+  after outs words places =
+      record (moved_on (with_event book course.line event) lane course.line to) { outs = outs; words = words; places = places }
 
   -- how the lane goes on
   pub record GoesOn : Type 0 where
@@ -121,9 +123,9 @@ module _ {book : Recorded} {lane : ℕ} {course : Course} {event : Event} {to : 
       (sym (replay-push book.script book.journal (made book lane course event to)))
       (waiting_stays book.script (replay book.script book.journal) course.line event (sound_after book.script book.journal) work.event work.waits apart)
 
-  module _ (outs : List (Option ℕ)) (words : Words) (out : IsNowOut book.outs outs lane None) where
+  module _ (outs : List (Option ℕ)) (words : Words) (places : List (Option Credential)) (out : IsNowOut book.outs outs lane None) where
     abbrev later : Recorded
-    later = after book lane course event to outs words
+    later = after book lane course event to outs words places
 
     work_stays : (other line : ℕ) (work : IsOutOf book other line) → other ≢ lane → IsOutOf later other line
     work_stays other line work differ = record {

@@ -2,6 +2,7 @@
 use Rattle.std.specs.Prelude.{ℕ, List, [], ◌∷◌, ◌++◌, slice_get}
 use Rattle.std.specs.declared.option.Option.{Option}
 use Rattle.std.specs.Option.{option_and_then}
+use Rattle.cred_record.specs.Credential.{Credential}
 use Rattle.cred_record.specs.File.{File}
 use Rattle.cred_event.specs.declared.event.Event.{Event}
 use Rattle.cred_event.specs.declared.answer.Answer.{Answer}
@@ -13,8 +14,9 @@ use Rattle.cred_model.specs.Journal.{replay, entry_of}
 use Rattle.cred_tables.specs.Kept.{Words}
 
 -- A script, the journal of its run so far, and for each lane a cursor, the course of a line or
--- none, the number of its lines that have ended, and the line whose work is out, or none; and the
--- shared words that the credentials stand in.
+-- none, the number of its lines that have ended, and the line whose work is out, or none; the
+-- shared words that the credentials stand in, and for each slot the credential that stands in its
+-- words, if one does.
 pub record Recorded : Type 0 where
   pub script : Script
   pub journal : List Entry
@@ -22,6 +24,7 @@ pub record Recorded : Type 0 where
   pub ended : List ℕ
   pub outs : List (Option ℕ)
   pub words : Words
+  pub places : List (Option Credential)
 
 -- the line of the lane whose work is out
 abbrev pub out_of : Recorded → ℕ → Option ℕ

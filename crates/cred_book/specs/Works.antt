@@ -1,11 +1,12 @@
 -- The works of a book's lanes: which are out, what is lent for them, and what is true of one.
 use Rattle.std.specs.Prelude.{◌≡◌, ◌≢◌, ℕ, true, List, [], ◌++◌, length, set, Some, None, IfSome}
-use Rattle.std.specs.Prelude.{◌≤◌, All, false, is_some, if◌then◌else◌}
+use Rattle.std.specs.Prelude.{◌≤◌, All, false, is_some, if◌then◌else◌, slice_set}
 use Rattle.std.specs.declared.option.Option.{Option}
 use Rattle.std.specs.List.{AllPairs, flat_map, range_with_len}
 use Rattle.std.specs.Option.{option_map_or}
 use Rattle.atomic_table.specs.Seated.{TableId}
 use Rattle.cred_ids.specs.Limits.{LAST_NUMBER}
+use Rattle.cred_record.specs.Credential.{Credential}
 use Rattle.cred_record.specs.File.{File}
 use Rattle.cred_event.specs.declared.content.Stage.{Stage}
 use Rattle.cred_event.specs.declared.event.Event.{Event}
@@ -20,6 +21,7 @@ use Rattle.cred_script.specs.Sound.{AreApart}
 use Rattle.cred_hold.specs.Tokens.{Loan}
 use Rattle.cred_work.specs.Decisions.{AreOf, work_event}
 use Rattle.cred_work.specs.declared.lent.Lent.{Lent}
+use Rattle.cred_work.specs.declared.lent.Lent.TheVariants.{Altering}
 use Rattle.cred_work.specs.Work.{Work}
 use Rattle.cred_work.specs.DecidedWorks.{IsUndecided}
 use Rattle.cred_tables.specs.Out.{AreBack, tokens_in, needs_tokens}
@@ -73,11 +75,17 @@ pub record IsLanes (book : Recorded) (lane : ℕ) (work : Work) : Type 0 where
   pub of : IsWorkOf book.script (infos_in book) book.words.id work
   pub out : out_of book lane ≡ Some work.line
 
+-- what stands in the slots once these tokens are lent: in one that is lent to be written, nothing
+abbrev pub places_of : Lent → List (Option Credential) → List (Option Credential)
+places_of (Altering base writer change made) places = slice_set places writer.slot None
+places_of lent places = places
+
 -- the book of which these tokens are lent for this line of the lane
 abbrev pub with_out : Recorded → ℕ → ℕ → Lent → Recorded
 with_out book lane line lent = record book {
   outs = set book.outs lane (Some line);
   words = record book.words { out = entries_of lent ++ book.words.out };
+  places = places_of lent book.places;
 }
 
 -- the book of which the lane's work is out
@@ -117,9 +125,13 @@ pub record IsBack (before after : Recorded) (lane : ℕ) (work : Work) : Type 0 
   pub outs : after.outs ≡ set before.outs lane None
   pub words : AreBack (entries_of work.lent) before.words after.words
 
--- The work's event was entered, and its tokens have come back. All else stays.
+-- The work's event was entered, and its tokens have come back. All else stays, but for what stands
+-- in the slots.
 pub record IsEntered (before after : Recorded) (work : Work) : Type 0 where
   pub same :
-      after ≡ record (with_event before work.line (work_event work.lent)) { words = after.words }
+      after ≡ record (with_event before work.line (work_event work.lent)) {
+        words = after.words;
+        places = after.places;
+      }
   pub words : AreBack (entries_of work.lent) before.words after.words
   pub taken : AreTaken (entries_of work.lent) before.words.out after.words.out

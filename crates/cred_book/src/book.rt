@@ -9,6 +9,7 @@ ghost use Rattle.cred_model.specs.Named.{IsEventOf};
 ghost use Rattle.cred_model.specs.Slots.{uses};
 ghost use Rattle.cred_script.specs.Lines.{line_at};
 ghost use Rattle.cred_course.specs.Cursor.{IsOfLine, MovesOnTo};
+ghost use Rattle.cred_tables.specs.Kept.{AreInPlace};
 ghost use Rattle.cred_tables.specs.Out.{AreHome};
 ghost use Rattle.cred_book.specs.Book.{with_event, answer_of, infos_in, out_of};
 ghost use Rattle.cred_book.specs.Counts.{Counts, ended_of};
@@ -67,6 +68,7 @@ impl Model for Book {
       ended = b.ended.items;
       outs = b.outs.items;
       words = b.state.words;
+      places = b.state.places;
     } };
 
     ghost invariant = { λ b.
@@ -114,6 +116,8 @@ impl Book {
         ensures own { IfOk result (λ made. made.0.words.id ≡ made.1) }
         ensures home { IfOk result (λ made. (made.0.words.out ≡ [])
             × ((lane : ℕ) → out_of made.0 lane ≡ None)) }
+        ensures in_place { IfOk result (λ made.
+            AreInPlace (replay made.0.script made.0.journal) made.0.places) }
     {
         let Ok(begun) = begin(alloc, &script) else {
             drop(script);
@@ -137,6 +141,7 @@ impl Book {
             spare: None,
             alloc,
         };
+        book.stands();
         Ok((book, cells))
     }
 
@@ -203,16 +208,19 @@ impl Book {
     /// # Errors
     ///
     /// `NoMemory` if an allocation of the state, the entry or the copy fails: the book is as it
-    /// was.
+    /// was, whatever stands in slots to which nothing refers.
     pub fn event(&mut self, cells: &Cells, line: u32, event: Event) -> Result<Answer, NoMemory>
         requires own { self.old.words.id ≡ cells.now }
         requires kind { IsEventOf (length self.old.script.files) self.old.script.namespaces event }
         requires home { AreHome event self.old.words.out }
         ensures words { self.new.words ≡ self.old.words }
-        ensures entered { OnOk result (self.new ≡ with_event self.old line event) }
+        ensures entered { OnOk result (self.new
+            ≡ record (with_event self.old line event) { places = self.new.places }) }
         ensures answer { IfOk result (λ answer. answer ≡ answer_of self.old line event) }
-        ensures err { OnErr result (self.new ≡ self.old) }
+        ensures in_place { AreInPlace (replay self.new.script self.new.journal) self.new.places }
+        ensures err { OnErr result (self.new ≡ record self.old { places = self.new.places }) }
     {
+        self.stands();
         let Ok(()) = self.journal.reserve(1) else {
             drop(event);
             return Err(NoMemory);
@@ -224,6 +232,7 @@ impl Book {
         let Ok(copied) = copy_answer(&answer) else {
             drop(event);
             drop(answer);
+            self.stands();
             return Err(NoMemory);
         };
         self.journal.push_reserved(Entry {
@@ -231,6 +240,7 @@ impl Book {
             event,
             answer,
         });
+        self.stands();
         Ok(copied)
     }
 
@@ -256,10 +266,13 @@ impl Book {
         ensures falls { IfOk result (λ step. step ≡ More
             → steps_left self.new < steps_left self.old) }
         ensures counts { IfOk result (Counts self.old self.new lane) }
+        ensures in_place { AreInPlace (replay self.new.script self.new.journal) self.new.places }
+        ensures home { NoLineIsLeft self.new → self.new.words.out ≡ [] }
         // Only the setup changes files.
         ensures files { lane ≢ 0 → infos_in self.new ≡ infos_in self.old }
         ensures err { OnErr result (self.new ≡ self.old) }
     {
+        self.stands();
         let Some(course) = self.cursors.due(lane) else {
             return Ok(Step::Ended);
         };
@@ -268,20 +281,32 @@ impl Book {
         };
         let line = course.line();
         if let Some(work) = self.hand_out(cells, lane, line, &event)? {
+            self.stands();
             return Ok(Step::Work(work));
         }
         let cursor = self.enter(cells, lane, course, event)?;
         self.move_on(lane, line, cursor);
+        self.stands();
         Ok(Step::More)
     }
 
-    /// The lane of the least line that has not ended; none where every line has. No memory is
-    /// taken.
+    /// The lane of the least line that has not ended; none where every line has. Then nothing is
+    /// lent. No memory is taken.
     pub fn least(&self) -> Option<u32>
         requires { BookStands self.now }
-        ensures { MatchOption result (NoLineIsLeft self.now) (IsLeastLane self.now) }
+        ensures least { MatchOption result (NoLineIsLeft self.now) (IsLeastLane self.now) }
+        ensures home { result ≡ None → self.now.words.out ≡ [] }
     {
         self.cursors.least()
+    }
+
+    /// Each credential that something refers to, after the journal, stands in the words of its
+    /// slot. Nothing runs: the state is read for what it says alone.
+    #[inline(always)]
+    fn stands(&self)
+        ensures { AreInPlace (replay self.now.script self.now.journal) self.now.places }
+    {
+        self.state.stands();
     }
 
     /// Enters the next event of a lane's course, and answers the lane's cursor after it; the book's
@@ -300,7 +325,8 @@ impl Book {
         requires home { AreHome event self.old.words.out }
         requires line { IsOfLine self.old.script course }
         requires going { is_some course.stage ≡ true }
-        ensures entered { OnOk result (self.new ≡ with_event self.old course.line event) }
+        ensures entered { OnOk result (self.new
+            ≡ record (with_event self.old course.line event) { places = self.new.places }) }
         ensures passes { IfOk result (λ cursor. IfSome (line_at self.old.script course.line)
             (λ line. MovesOnTo self.old.script lane
             (course_model.after line.content course (answer_of self.old course.line event))

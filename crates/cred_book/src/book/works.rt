@@ -1,6 +1,6 @@
 //! Works that go out, and that come back decided.
-ghost use Rattle.std.specs.Prelude.{◌≡◌, ◌≢◌, ◌<◌, length, set, true, is_some, None, IfOk, IfErr};
-ghost use Rattle.std.specs.Prelude.{IfNone, IfSome, OnOk, OnErr};
+ghost use Rattle.std.specs.Prelude.{◌≡◌, ◌≢◌, ◌<◌, [], length, set, true, is_some, None, IfOk};
+ghost use Rattle.std.specs.Prelude.{IfErr, IfNone, IfSome, OnOk, OnErr};
 ghost use Rattle.std.specs.Option.{option_map};
 ghost use Rattle.cred_model.specs.Course as course_model;
 ghost use Rattle.cred_model.specs.Journal as model;
@@ -12,11 +12,12 @@ ghost use Rattle.cred_script.specs.Lines.{line_at};
 ghost use Rattle.cred_course.specs.Cursor.{IsOfLine, MovesOnTo};
 ghost use Rattle.cred_work.specs.Decisions.{undecided, work_event, AreOf};
 ghost use Rattle.cred_work.specs.DecidedWorks.{IsDecided};
+ghost use Rattle.cred_tables.specs.Kept.{AreInPlace};
 ghost use Rattle.cred_tables.specs.Out.{AreHome, tokens_in, needs_tokens};
 ghost use Rattle.cred_state.specs.TokensOut.{entries_of, needs_decision};
 ghost use Rattle.cred_book.specs.Book.{answer_of, infos_in};
 ghost use Rattle.cred_book.specs.Counts.{HasEntered};
-ghost use Rattle.cred_book.specs.Cursor.{Finishes, BookStands, steps_left};
+ghost use Rattle.cred_book.specs.Cursor.{Finishes, BookStands, NoLineIsLeft, steps_left};
 ghost use Rattle.cred_book.specs.Works.{IsChainFor, IsEntered, IsHanded, IsLanes, IsWorkOf};
 ghost use Rattle.cred_book.specs.Works.{with_out};
 ghost use Rattle.cred_book.specs.declared.step.Step.TheVariants.{More};
@@ -51,17 +52,21 @@ impl Book {
             (model.next self.old.script self.old.journal lane)) }
         ensures falls { OnOk result (steps_left self.new < steps_left self.old) }
         ensures counts { OnOk result (HasEntered self.old self.new lane 1) }
+        ensures in_place { AreInPlace (replay self.new.script self.new.journal) self.new.places }
+        ensures home { NoLineIsLeft self.new → self.new.words.out ≡ [] }
         // Only the setup changes files.
         ensures files { lane ≢ 0 → infos_in self.new ≡ infos_in self.old }
         ensures err { IfErr result (λ unfinished. (unfinished.work ≡ work)
             × (self.new ≡ self.old)) }
     {
+        self.stands();
         let Some(course) = self.cursors.due(lane) else {
             unreachable!()
         };
         let cursor = self.enter_decided(cells, lane, course, work)?;
         self.take_home(lane);
         self.move_on(lane, course.line(), cursor);
+        self.stands();
         Ok(Step::More)
     }
 

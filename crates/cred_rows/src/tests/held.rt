@@ -67,15 +67,6 @@ const ROWS: [Row; 34] = [
     ),
     ("commit h6", &["0 One(Commit 6)"]),
     (
-        "t1 dumpable 2\nt2 dumped\nt3 ptrace fs t4\nt5 ptrace real t6\n",
-        &[
-            "0 One(Dumpable 1 2)",
-            "0 One(Dumped 2)",
-            "0 Ptrace 3 4 Fs",
-            "0 Ptrace 5 6 Real",
-        ],
-    ),
-    (
         "t1 raw setgroups 30 10",
         &["0 One(Raw 1 SetGroups(IdList { ids: [Id(30), Id(10)] }))"],
     ),

@@ -109,6 +109,7 @@ returns-in-Ok-enter-clause-entered c =
         ended = b.ended.items;
         outs = b.outs.items;
         words = c.enter.new.self.words;
+        places = c.enter.new.self.places;
       };
       words = back;
       taken = taken;
@@ -142,6 +143,7 @@ returns-in-Ok-enter-clause-passes c =
       ended = b.ended.items;
       outs = b.outs.items;
       words = b.state.words;
+      places = b.state.places;
     } in
     let answer : c.in-Ok-enter.answer ≡ answer_of book c.args.course.line (work_event w.lent)
     = sym made.answers ∙ ap (λ (n : ℕ). answer_of book n (work_event w.lent)) (sym c.requires.number) in

@@ -48,7 +48,7 @@ returns-clause-entered c =
     let made = replays b.script b.state.state c.step.new.self.state b.journal.items (entry c.in-Ok-step.answer) c.self.invariant.0 c.in-Ok-step.ensures.ok in
     rw (← c.self.view_is)
     (let grown = longer ∙ ap (λ (answer : Answer). b.journal.items ++ entry answer ∷ []) (sym made.answers) in
-    λ k. record { script = b.script; journal = grown k; cursors = b.cursors; ended = b.ended.items; outs = b.outs.items; words = c.step.ensures.words k })
+    λ k. record { script = b.script; journal = grown k; cursors = b.cursors; ended = b.ended.items; outs = b.outs.items; words = c.step.ensures.words k; places = c.step.new.self.places })
 
 pub returns-clause-answer : goal.returns-clause-answer
 returns-clause-answer c =
@@ -56,3 +56,6 @@ returns-clause-answer c =
     let entry : Entry = record { line = c.args.line; event = c.args.event; answer = c.in-Ok-step.answer } in
     let made = replays b.script b.state.state c.step.new.self.state b.journal.items entry c.self.invariant.0 c.in-Ok-step.ensures.ok in
     c.in-Ok-copy_answer.ensures.equal ∙ sym made.answers ∙ ap (λ (r : Recorded). answer_of r c.args.line c.args.event) c.self.view_is
+
+pub returns-in_default-copy_answer-clause-in_place : goal.returns-in_default-copy_answer-clause-in_place
+returns-in_default-copy_answer-clause-in_place c = c.stands-in_default-copy_answer.ensures

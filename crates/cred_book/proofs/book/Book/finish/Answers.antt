@@ -7,9 +7,10 @@ use Rattle.cred_course.proofs.Turns.{lane_has_place}
 use Rattle.cred_tables.specs.Out.{AreOut}
 use Rattle.cred_work.specs.Decisions.{work_event}
 use Rattle.cred_book.specs.Book.{Recorded}
-use Rattle.cred_book.specs.Cursor.{moved_on}
+use Rattle.cred_book.specs.Cursor.{BookStands, moved_on}
 use Rattle.cred_book.proofs.Cursors.{due_counts, due_found, due_goes_on, due_of_line, lane_has_out}
 use Rattle.cred_book.proofs.Handed.{ComesBack, at_home, back_in, comes_back, course_is, work_course}
+use Rattle.cred_book.proofs.Places.{all_home}
 use Rattle.cred_book.proofs.book.Book.finish.Goals as goal
 
 pub unreachable-requires : goal.unreachable-requires
@@ -58,7 +59,7 @@ move_on-requires c =
     let here : due_of book.cursors c.args.lane ≡ Some course
     = due_found _ book c.args.lane _ _ c.self.view_is c.due.ensures c.in-Some.is in
     let may = due_counts book c.args.lane course c.requires.stands here in
-    let same : c.take_home.new.self ≡ at_home (back_in book c.args.work.line (work_event c.args.work.lent) c.enter_decided.new.self.words) c.args.lane
+    let same : c.take_home.new.self ≡ at_home (back_in book c.args.work.line (work_event c.args.work.lent) c.enter_decided.new.self.words c.enter_decided.new.self.places) c.args.lane
     = c.take_home.ensures ∙ ap (λ (b : Recorded). at_home b c.args.lane) c.in_ok-cursor.ensures.entered.same in
     record {
       cursors = subst (λ (b : Recorded). c.args.lane < length b.cursors) (sym same) (lane_has_place book.cursors c.args.lane course here);
@@ -92,6 +93,12 @@ returns c =
       made = m.made;
       falls = m.falls;
       counts = m.counts;
+      in_place = c.stands-2.ensures;
+      home = all_home c.move_on.new.self m.stands;
       files = m.files;
       err = tt;
     }
+
+pub returns-in_err-cursor-clause-home : goal.returns-in_err-cursor-clause-home
+returns-in_err-cursor-clause-home c =
+    all_home c.enter_decided.new.self (subst BookStands (sym c.in_err-cursor.ensures.err.1) c.requires.stands)

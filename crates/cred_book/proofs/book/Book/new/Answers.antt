@@ -25,6 +25,7 @@ returns-clause-home c =
       ended = begun.ended.items;
       outs = begun.outs.items;
       words = begun.state.words;
+      places = begun.state.places;
     } in
     (c.in-Ok.ensures.lent, λ lane. no_work book _ lane c.in-Ok.ensures.outs)
 
@@ -38,6 +39,7 @@ returns-clause-stands c =
       ended = begun.ended.items;
       outs = begun.outs.items;
       words = begun.state.words;
+      places = begun.state.places;
     } in
     nothing_run book (record {
       journal = c.in-Ok.ensures.journal;

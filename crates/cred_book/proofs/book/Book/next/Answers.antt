@@ -14,13 +14,14 @@ use Rattle.cred_course.proofs.Turns.{lane_has_place}
 use Rattle.cred_work.specs.Work.{Work}
 use Rattle.cred_tables.specs.Kept.{Words}
 use Rattle.cred_tables.specs.Out.{AreHome, needs_tokens}
-use Rattle.cred_book.specs.Book.{Recorded, answer_of, infos_in, with_event}
-use Rattle.cred_book.specs.Cursor.{moved_on}
+use Rattle.cred_book.specs.Book.{Recorded, answer_of, infos_in}
+use Rattle.cred_book.specs.Cursor.{BookStands, moved_on}
 use Rattle.cred_book.specs.Works.{GoesOut, IsHanded, with_work}
 use Rattle.cred_book.proofs.Cursors.{due_counts, due_found, due_goes_on, due_makes, due_of_line, lane_has_out, none_counted, none_made}
-use Rattle.cred_book.proofs.Handed.{EntersMore, HandsOut, enters_more, hands_out, made_event}
+use Rattle.cred_book.proofs.Handed.{EntersMore, HandsOut, enters_more, hands_out, made_event, put_in}
 use Rattle.cred_book.proofs.Lent.{next_home}
 use Rattle.cred_book.proofs.Nexts.{event_of, next_is}
+use Rattle.cred_book.proofs.Places.{all_home}
 use Rattle.cred_book.proofs.Works.{GoesOn}
 use Rattle.cred_book.proofs.book.Book.next.Goals as goal
 
@@ -36,6 +37,8 @@ returns-in_default c =
       made = none_made book c.args.lane c.requires.stands none;
       falls = λ more. cc;
       counts = none_counted book c.args.lane c.requires.stands none;
+      in_place = c.stands.ensures;
+      home = all_home book c.requires.stands;
       files = λ other. refl;
       err = tt;
     }
@@ -103,6 +106,8 @@ returns-in-Some-3 c =
       made = r.made;
       falls = λ more. cc;
       counts = r.counts;
+      in_place = c.stands-in-Some-3.ensures;
+      home = all_home after r.stands;
       files = λ other. ap infos_in goes.lent;
       err = tt;
     }
@@ -171,8 +176,9 @@ move_on-requires c =
     let back = subst (IsHanded book c.hand_out.new.self c.args.lane c.line-line.result c.in-Some-2.event) c.in_default-3.is c.in_ok-work.ensures.handed in
     let none : c.hand_out.new.self ≡ book = back.1 in
     let may = due_counts book c.args.lane course c.requires.stands here in
-    let same : with_event book course.line c.in-Some-2.event ≡ c.enter.new.self
-    = ap (λ (b : Recorded). with_event b course.line c.in-Some-2.event) (sym none) ∙ sym c.in_ok-cursor.ensures.entered in
+    let places = c.enter.new.self.places in
+    let same : put_in book course.line c.in-Some-2.event places ≡ c.enter.new.self
+    = ap (λ (b : Recorded). put_in b course.line c.in-Some-2.event places) (sym none) ∙ sym c.in_ok-cursor.ensures.entered in
     record {
       cursors = subst (λ (b : Recorded). c.args.lane < length b.cursors) same (lane_has_place book.cursors c.args.lane course here);
       counts = subst (λ (b : Recorded). c.args.lane < length b.ended) same may.0;
@@ -193,10 +199,11 @@ returns c =
     let lane = c.args.lane in
     let to : Option Course = c.in_ok-cursor.cursor in
     let after : Recorded = c.move_on.new.self in
-    let same : moved_on (with_event book course.line event) lane course.line to ≡ after
+    let places = c.enter.new.self.places in
+    let same : moved_on (put_in book course.line event places) lane course.line to ≡ after
     = sym (c.move_on.ensures ∙ ap (λ (b : Recorded). moved_on b lane c.line-line.result to) c.in_ok-cursor.ensures.entered
-    ∙ ap (λ n. moved_on (with_event c.hand_out.new.self course.line event) lane n to) c.line-line.ensures.value
-    ∙ ap (λ (b : Recorded). moved_on (with_event b course.line event) lane course.line to) none) in
+    ∙ ap (λ n. moved_on (put_in c.hand_out.new.self course.line event places) lane n to) c.line-line.ensures.value
+    ∙ ap (λ (b : Recorded). moved_on (put_in b course.line event places) lane course.line to) none) in
     let free : needs_tokens (replay book.script book.journal) event ≡ false
     = back.0 in
     let goes : GoesOn book lane course event to = record {
@@ -207,7 +214,7 @@ returns c =
           (λ line. MovesOnTo r.script lane (model.after line.content course (answer_of r course.line event)) to)) none
           c.in_ok-cursor.ensures.passes;
     } in
-    let e = enters_more goes c.requires.home free in
+    let e = enters_more goes places c.requires.home free in
     let m : EntersMore book after lane = subst (λ b. EntersMore book b lane) same e in
     record {
       script = m.script;
@@ -216,6 +223,22 @@ returns c =
       made = m.made;
       falls = λ more. m.falls;
       counts = m.counts;
+      in_place = c.stands-2.ensures;
+      home = all_home after m.stands;
       files = m.files;
       err = tt;
     }
+
+pub returns-in_err-event-clause-home : goal.returns-in_err-event-clause-home
+returns-in_err-event-clause-home c = all_home c.args.self.now c.requires.stands
+
+pub returns-in_err-work-clause-home : goal.returns-in_err-work-clause-home
+returns-in_err-work-clause-home c =
+    all_home c.hand_out.new.self (subst BookStands (sym c.in_err-work.ensures.err) c.requires.stands)
+
+pub returns-in_err-cursor-clause-home : goal.returns-in_err-cursor-clause-home
+returns-in_err-cursor-clause-home c =
+    let book : Recorded = c.args.self.now in
+    let back = subst (IsHanded book c.hand_out.new.self c.args.lane c.line-line.result c.in-Some-2.event) c.in_default-3.is c.in_ok-work.ensures.handed in
+    let same : c.enter.new.self ≡ book = c.in_err-cursor.ensures.err ∙ back.1 in
+    all_home c.enter.new.self (subst BookStands (sym same) c.requires.stands)
