@@ -291,7 +291,8 @@ comes_back book entered lane course to work stands are is due back passes =
     now : IsNowOut book.outs (set book.outs lane None) lane None
     now = out_set book.outs lane None (lane_has_out book lane course stands due)
 
-    m : Moves book (after book lane course (its_event work.lent) to (set book.outs lane None) entered.words entered.places) lane (count_of (needs_tokens (replay book.script book.journal) (its_event work.lent)))
+    m : Moves book (after book lane course (its_event work.lent) to (set book.outs lane None) entered.words entered.places) lane
+        (count_of (needs_tokens (replay book.script book.journal) (its_event work.lent)))
     m = moves goes (set book.outs lane None) entered.words entered.places now returned
 
     entered_is : entered ≡ back_in book course.line (its_event work.lent) entered.words entered.places
@@ -302,10 +303,16 @@ comes_back book entered lane course to work stands are is due back passes =
       script = refl;
       cells = back.words.id;
       stands = m.stands;
-      made = makes_back book (moved_on (at_home (back_in book course.line (its_event work.lent) entered.words entered.places) lane) lane course.line to) lane (next book.script book.journal lane)
+      made =
+          makes_back book (moved_on (at_home (back_in book course.line (its_event work.lent) entered.words entered.places) lane) lane course.line to) lane
+          (next book.script book.journal lane)
           (entry_of book.script book.journal (record { line = course.line; event = (its_event work.lent) })) work
           (next_some book.script book.journal book.cursors lane course (its_event work.lent) stands.cursors due goes.has) line refl refl refl back.words;
       falls = m.falls;
-      counts = subst (λ b. HasEntered book (moved_on (at_home (back_in book course.line (its_event work.lent) entered.words entered.places) lane) lane course.line to) lane (count_of b)) waits m.counts;
+      counts =
+          subst
+          (λ b. HasEntered book (moved_on (at_home (back_in book course.line (its_event work.lent) entered.words entered.places) lane) lane course.line to) lane
+          (count_of b))
+          waits m.counts;
       files = files_stay goes;
     }

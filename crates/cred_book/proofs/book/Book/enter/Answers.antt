@@ -46,8 +46,20 @@ returns-clause-entered c =
     c.in-Ok-step.ensures.ok in
     rw (← c.self.view_is)
     (let grown = longer ∙ ap (λ (answer : Answer). b.journal.items ++ entry c.line-line.result answer ∷ []) (sym made.answers)
-    ∙ ap (λ (n : ℕ). b.journal.items ++ entry n (answer_of (record { script = b.script; journal = b.journal.items; cursors = b.cursors; ended = b.ended.items; outs = b.outs.items; words = b.state.words; places = b.state.places }) n c.args.event) ∷ []) number in
-    λ k. record { script = b.script; journal = grown k; cursors = b.cursors; ended = b.ended.items; outs = b.outs.items; words = c.step.ensures.words k; places = c.step.new.self.places })
+    ∙ ap
+    (λ (n : ℕ). b.journal.items ++ entry n
+    (answer_of (record { script = b.script; journal = b.journal.items; cursors = b.cursors; ended = b.ended.items; outs = b.outs.items; words = b.state.words; places = b.state.places }) n c.args.event) ∷ [])
+    number in
+    λ k.
+    record {
+      script = b.script;
+      journal = grown k;
+      cursors = b.cursors;
+      ended = b.ended.items;
+      outs = b.outs.items;
+      words = c.step.ensures.words k;
+      places = c.step.new.self.places;
+    })
 
 pub returns-clause-passes : goal.returns-clause-passes
 returns-clause-passes c =
@@ -55,7 +67,16 @@ returns-clause-passes c =
     let number : c.line-line.result ≡ c.args.course.line = c.line-line.ensures.value in
     let entry : Entry = record { line = c.line-line.result; event = c.args.event; answer = c.in-Ok-step.answer } in
     let made = replays b.script b.state.state c.step.new.self.state b.journal.items entry c.self.invariant.0 c.in-Ok-step.ensures.ok in
-    let book : Recorded = record { script = b.script; journal = b.journal.items; cursors = b.cursors; ended = b.ended.items; outs = b.outs.items; words = b.state.words; places = b.state.places } in
+    let book : Recorded =
+    record {
+      script = b.script;
+      journal = b.journal.items;
+      cursors = b.cursors;
+      ended = b.ended.items;
+      outs = b.outs.items;
+      words = b.state.words;
+      places = b.state.places;
+    } in
     let answer : c.in-Ok-step.answer ≡ answer_of book c.args.course.line c.args.event
     = sym made.answers ∙ ap (λ (n : ℕ). answer_of book n c.args.event) number in
     let passes = subst
