@@ -135,8 +135,10 @@ follow_lowers : (s : State) (number task : ℕ) (cast : Broadcast) (owner : Task
 follow_lowers s number task cast owner old (Err refusal) opened first = λ waits. cc
 follow_lowers s number task cast owner old (Ok new) opened first =
     in_slots (Lowers s) s (λ now. (Aborted task cause.Full, aborted cast now))
-    (λ now slot.
-    (Acted task (length now.creds) slot (length cast.waiting - 1), record (replaced now task old.number new slot) { casts = waits_no_more task now.casts; dumpable = renewed now.dumpable owner.process (differs old.cred new) }))
+    (λ now slot. (
+      Acted task (length now.creds) slot (length cast.waiting - 1),
+      record (replaced now task old.number new slot) { casts = waits_no_more task now.casts; dumpable = renewed now.dumpable owner.process (differs old.cred new) },
+    ))
     (λ left fewer waits. cc)
     (λ left slot fewer free waits. waiting-acted task number s.casts cast opened (least_waits cast task first))
 

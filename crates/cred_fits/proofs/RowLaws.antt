@@ -451,9 +451,7 @@ of_chown s hold place owner group =
     some_case Q (held_by s hold) _ _ refl (λ held is.
     some_case Q (slice_get s.infos place) _ _ refl (λ old there.
     let does : File → Result (Answer × State) Answer = λ new. Ok (answer.Done, record s { infos = slice_set s.infos place new }) in
-    elim
-    (may_chown held.cred old owner group) as (λ b. may_chown held.cred old owner group ≡ b
-    → Q (by_rule (cond b (Ok (chowned old owner group)) (Err Perm)) >>= does)) [
+    elim (may_chown held.cred old owner group) as (λ b. may_chown held.cred old owner group ≡ b → Q (by_rule (cond b (Ok (chowned old owner group)) (Err Perm)) >>= does)) [
       | true ↦ λ may. refl
       | false ↦ λ no. refused_gives (capable held.cred CHOWN) (gives_one owner group) (may_as_owner held.cred old owner group) no
     ] refl))
@@ -477,9 +475,7 @@ of_set_attr s hold place attr =
     some_case Q (held_by s hold) _ _ refl (λ held is.
     some_case Q (slice_get s.infos place) _ _ refl (λ old there.
     let does : File → Result (Answer × State) Answer = λ new. Ok (answer.Done, record s { infos = slice_set s.infos place new }) in
-    elim
-    (capable held.cred SETFCAP) as (λ a. Q
-    (by_rule (cond (not a) (Err Perm) (cond (not (is_attr attr)) (Err Invalid) (Ok (record old { attr = attr })))) >>= does)) [
+    elim (capable held.cred SETFCAP) as (λ a. Q (by_rule (cond (not a) (Err Perm) (cond (not (is_attr attr)) (Err Invalid) (Ok (record old { attr = attr })))) >>= does)) [
       | true ↦ elim (is_attr attr) as (λ b. is_attr attr ≡ b → Q (by_rule (cond (not b) (Err Invalid) (Ok (record old { attr = attr }))) >>= does)) [
         | true ↦ λ one. one
         | false ↦ λ none. ap not none

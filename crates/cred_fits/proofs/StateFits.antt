@@ -122,8 +122,10 @@ of_init s task process user group ns root known fits =
     (none_case (Gives s) (task_of s task) _ _ (fits.0, range) (λ new.
     test_case (Gives s) (nat_lt (length s.tasks) TASKS) _ _ (tt, range)
     (in_slots Good s table_full
-    (λ t slot.
-    (answer.Sealed (length t.creds) slot, record (created t (first_task task process (length t.creds)) (first_credential user group ns root) slot) { dumpable = flags_begun t process }))
+    (λ t slot. (
+      answer.Sealed (length t.creds) slot,
+      record (created t (first_task task process (length t.creds)) (first_credential user group ns root) slot) { dumpable = flags_begun t process },
+    ))
     (λ left less. (tt, range))
     (λ left slot less free. (
       (known.creds, slot_number slot free.below),

@@ -157,8 +157,10 @@ of_begin s line task call known n t fits =
     let others = others_of owner s.tasks in
     let cast : Broadcast = record { number = line; process = owner.process; caller = task; call = call; waiting = others } in
     in_slots Good s table_full
-    (λ t slot.
-    (answer.Began (length t.creds) slot (length others), record (replaced t task old.number made slot) { casts = with_cast t.casts cast; dumpable = renewed t.dumpable owner.process (differs old.cred made) }))
+    (λ t slot. (
+      answer.Began (length t.creds) slot (length others),
+      record (replaced t task old.number made slot) { casts = with_cast t.casts cast; dumpable = renewed t.dumpable owner.process (differs old.cred made) },
+    ))
     (λ left less. (tt, range))
     (λ left slot less free. (
       (known.creds, slot_number slot free.below, (let few = known.tasks in omega (arith, few, others_few owner s.tasks))),
@@ -196,8 +198,10 @@ followed s cast task owner old (Ok made) known t few h =
     let range = known.range in
     in_slots Good s
     (λ t. (answer.Aborted task cause.Full, aborted cast t))
-    (λ t slot.
-    (answer.Acted task (length t.creds) slot (length cast.waiting - 1), record (replaced t task old.number made slot) { casts = waits_no_more task t.casts; dumpable = renewed t.dumpable owner.process (differs old.cred made) }))
+    (λ t slot. (
+      answer.Acted task (length t.creds) slot (length cast.waiting - 1),
+      record (replaced t task old.number made slot) { casts = waits_no_more task t.casts; dumpable = renewed t.dumpable owner.process (differs old.cred made) },
+    ))
     (λ left less. (t, aborted_range cast (with_left s left) range))
     (λ left slot less free. (
       (t, known.creds, slot_number slot free.below, few),
@@ -233,8 +237,10 @@ of_raw s task call known t fits =
     (own s owner _ (owner_fits s task owner range is) range
     (by_rule_gives s (set_id old.cred call) _ range (call_made_fits old.cred call found.cred fits) (λ made h.
     in_slots Good s table_full
-    (λ t slot.
-    (answer.Sealed (length t.creds) slot, record (replaced t task old.number made slot) { dumpable = renewed t.dumpable owner.process (differs old.cred made) }))
+    (λ t slot. (
+      answer.Sealed (length t.creds) slot,
+      record (replaced t task old.number made slot) { dumpable = renewed t.dumpable owner.process (differs old.cred made) },
+    ))
     (λ left less. (tt, range))
     (λ left slot less free. (
       (known.creds, slot_number slot free.below),

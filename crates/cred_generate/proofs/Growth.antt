@@ -126,8 +126,10 @@ of_init s task process user group ns root =
     none_case (Tells s) (task_of s task) _ _ refl (λ new.
     test_case (Tells s) (nat_lt (length s.tasks) TASKS) _ _ refl
     (slot_counts s table_full
-    (λ t slot.
-    (answer.Sealed (length t.creds) slot, record (created t (first_task task process (length t.creds)) (first_credential user group ns root) slot) { dumpable = flags_begun t process }))
+    (λ t slot. (
+      answer.Sealed (length t.creds) slot,
+      record (created t (first_task task process (length t.creds)) (first_credential user group ns root) slot) { dumpable = flags_begun t process },
+    ))
     (λ t is. long s t is) (λ t slot is. next_of s t.creds (record { cred = first_credential user group ns root; slot = slot }) is))))
 
 of_hold : (s : State) (label : ℕ) (taken : Numbered) → (taken.number == length s.creds) ≡ false → Tells s (take_hold s label taken)
@@ -305,8 +307,10 @@ of_begin s line task call =
     let others = others_of owner s.tasks in
     let cast : Broadcast = record { number = line; process = owner.process; caller = task; call = call; waiting = others } in
     slot_counts s table_full
-    (λ t slot.
-    (answer.Began (length t.creds) slot (length others), record (replaced t task old.number made slot) { casts = with_cast t.casts cast; dumpable = renewed t.dumpable owner.process (differs old.cred made) }))
+    (λ t slot. (
+      answer.Began (length t.creds) slot (length others),
+      record (replaced t task old.number made slot) { casts = with_cast t.casts cast; dumpable = renewed t.dumpable owner.process (differs old.cred made) },
+    ))
     (λ t is. long s t is) (λ t slot is. next_of s t.creds (record { cred = made; slot = slot }) is)))))))
 
 followed : (s : State) (cast : Broadcast) (task : ℕ) (owner : Task) (old : Numbered) (r : Result Credential Answer) → Counts s (follow s cast task owner old r)
@@ -314,8 +318,10 @@ followed s cast task owner old (Err refused) = refl
 followed s cast task owner old (Ok made) =
     slot_counts s
     (λ t. (answer.Aborted task cause.Full, aborted cast t))
-    (λ t slot.
-    (answer.Acted task (length t.creds) slot (length cast.waiting - 1), record (replaced t task old.number made slot) { casts = waits_no_more task t.casts; dumpable = renewed t.dumpable owner.process (differs old.cred made) }))
+    (λ t slot. (
+      answer.Acted task (length t.creds) slot (length cast.waiting - 1),
+      record (replaced t task old.number made slot) { casts = waits_no_more task t.casts; dumpable = renewed t.dumpable owner.process (differs old.cred made) },
+    ))
     (λ t is. long s t is) (λ t slot is. next_of s t.creds (record { cred = made; slot = slot }) is)
 
 of_act : (s : State) (number : ℕ) → Tells s (by_act s number)
@@ -404,8 +410,10 @@ of_raw s task call =
     own_case (Tells s) owner _ (λ depth. refl)
     (rule_case (Tells s) (set_id old.cred call) _ (silent_refusal s) (λ made ruled.
     slot_counts s table_full
-    (λ t slot.
-    (answer.Sealed (length t.creds) slot, record (replaced t task old.number made slot) { dumpable = renewed t.dumpable owner.process (differs old.cred made) }))
+    (λ t slot. (
+      answer.Sealed (length t.creds) slot,
+      record (replaced t task old.number made slot) { dumpable = renewed t.dumpable owner.process (differs old.cred made) },
+    ))
     (λ t is. long s t is) (λ t slot is. next_of s t.creds (record { cred = made; slot = slot }) is))))))
 
 pub tells : (script : Script) (s : State) (line : ℕ) (e : Event) → Tells s (done script s line e)

@@ -177,8 +177,7 @@ dropped_beside process other casts cast differ is =
 pub dropped_none : (process : ℕ) (casts : List Broadcast) → found_in process (dropped process casts) ≡ None
 dropped_none process [] = refl
 dropped_none process (c ∷ casts) =
-    elim
-    (c.process == process) as (λ b. (c.process == process) ≡ b → found_in process (cond (not b) (c ∷ dropped process casts) (dropped process casts)) ≡ None) [
+    elim (c.process == process) as (λ b. (c.process == process) ≡ b → found_in process (cond (not b) (c ∷ dropped process casts) (dropped process casts)) ≡ None) [
       | true ↦ λ is. dropped_none process casts
       | false ↦ λ other. ap (λ b. cond b (Some c) (found_in process (dropped process casts))) other ∙ dropped_none process casts
     ] refl

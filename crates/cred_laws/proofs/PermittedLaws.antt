@@ -62,9 +62,7 @@ still_before : (s : State) (more : List Task) (creds : List SealedCred) (task : 
     → current_in s.tasks creds task ≡ Some c → current_in (s.tasks ++ more) creds task ≡ Some c
 still_before s more creds task c is =
     ap (option_and_then (λ (t : Task). numbered creds t.current)) (find-append (λ (t : Task). t.number == task) s.tasks more)
-    ∙ elim
-    (find (λ t. t.number == task) s.tasks) as (λ o. option_and_then (λ (t : Task). numbered creds t.current) o ≡ Some c
-    → option_and_then (λ (t : Task). numbered creds t.current) (option_or o (find (λ t. t.number == task) more)) ≡ Some c) [
+    ∙ elim (find (λ t. t.number == task) s.tasks) as (λ o. option_and_then (λ (t : Task). numbered creds t.current) o ≡ Some c → option_and_then (λ (t : Task). numbered creds t.current) (option_or o (find (λ t. t.number == task) more)) ≡ Some c) [
       | None ↦ λ none. cc
       | Some t ↦ λ some. some
     ] is
@@ -117,7 +115,8 @@ caused_gains script s event task owner ends old c made are current number (ByAct
     called_gains s task old before cast.call c current is ruled ∙ ap gain_told (sym answered)
 caused_gains script s event task owner ends old c made are current number (ByRaw call before slot by is ruled idle none casts answered flags) =
     called_gains s task old before call c current is ruled ∙ ap gain_told (sym answered)
-caused_gains script s event task owner ends old c made are current number (ByCommit label place slot count p last by first is own changed same cred ending casts answered flags) =
+caused_gains script s event task owner ends old c made are current number
+(ByCommit label place slot count p last by first is own changed same cred ending casts answered flags) =
     let one = All-at (IsMade script s.creds) s.prepared place p is are in
     let so = subst (λ o. IfSome o (IsChangedFrom script (numbered s.creds p.base))) changed one in
     let base : numbered s.creds p.base ≡ Some old = ap (numbered s.creds) (sym same ∙ number) ∙ under_number s task old current in

@@ -1,6 +1,5 @@
 -- What an event leaves referred to: all that was, but for what a sweep drops.
-use Rattle.std.proofs.Common.{◌≡◌, ◌≢◌, ◌==◌, not, ℕ, zero, suc, List, [], ◌∷◌, ◌++◌, map, slice_get, get_or, find, remove, Some, Bool, true, false, cond, refl}
-use Rattle.std.proofs.Common.{sym, ◌∙◌, subst}
+use Rattle.std.proofs.Common.{◌≡◌, ◌≢◌, ◌==◌, not, ℕ, zero, suc, List, [], ◌∷◌, ◌++◌, map, slice_get, get_or, find, remove, Some, Bool, true, false, cond, refl, sym, ◌∙◌, subst}
 use Rattle.std.specs.List.{All, AllPairs, filter}
 use Rattle.std.proofs.lemmas.Bool.{eqb-true}
 use Rattle.std.proofs.lemmas.List.Elements.{All-cons, All-head, All-nil, All-tail, All-weaker}
@@ -28,9 +27,7 @@ last_of P xs x each = All-head P x [] (All-right P xs (x ∷ []) each)
 both_ways : {X : Type 0} (P : X → Type 0) (p : X → Bool) (xs : List X) → All P (filter (λ x. not (p x)) xs) → All P (filter p xs) → All P xs
 both_ways P p [] on off = All-nil P
 both_ways P p (x ∷ xs) on off =
-    elim
-    (p x) as (λ b. All P (cond (not b) (x ∷ filter (λ y. not (p y)) xs) (filter (λ y. not (p y)) xs)) → All P (cond b (x ∷ filter p xs) (filter p xs))
-    → All P (x ∷ xs)) [
+    elim (p x) as (λ b. All P (cond (not b) (x ∷ filter (λ y. not (p y)) xs) (filter (λ y. not (p y)) xs)) → All P (cond b (x ∷ filter p xs) (filter p xs)) → All P (x ∷ xs)) [
       | true ↦ λ on off. All-cons P x xs (All-head P x (filter p xs) off) (both_ways P p xs on (All-tail P x (filter p xs) off))
       | false ↦ λ on off.
           let rest = filter (λ y. not (p y)) xs in

@@ -1,7 +1,6 @@
 -- What an event reads of a state, where another has the same but for credentials that nothing
 -- refers to.
-use Rattle.std.proofs.Common.{◌≡◌, ◌==◌, ◌||◌, not, ℕ, zero, suc, List, [], ◌∷◌, ◌++◌, length, map, slice_get, Some, None, Bool, false, refl, sym, ap, ◌∙◌}
-use Rattle.std.proofs.Common.{arith}
+use Rattle.std.proofs.Common.{◌≡◌, ◌==◌, ◌||◌, not, ℕ, zero, suc, List, [], ◌∷◌, ◌++◌, length, map, slice_get, Some, None, Bool, false, refl, sym, ap, ◌∙◌, arith}
 use Rattle.std.specs.List.{All, find, list_any}
 use Rattle.std.specs.Option.{IfSome, option_and_then, option_map, option_map_or}
 use Rattle.std.proofs.lemmas.List.{length-map}
@@ -60,9 +59,7 @@ same_held s cs label like =
 -- what holds of a number holds of that of the credential under it
 pub numbered_by : (creds : List SealedCred) (n : ℕ) (P : ℕ → Type 0) → P n → IfSome (numbered creds n) (λ c. P c.number)
 numbered_by creds n P holds =
-    elim
-    (slice_get creds n) as (λ o. IfSome (option_map (λ (sealed : SealedCred). record { number = n; cred = sealed.cred; slot = sealed.slot }) o)
-    (λ (c : Numbered). P c.number)) [
+    elim (slice_get creds n) as (λ o. IfSome (option_map (λ (sealed : SealedCred). record { number = n; cred = sealed.cred; slot = sealed.slot }) o) (λ (c : Numbered). P c.number)) [
       | None ↦ tt
       | Some sealed ↦ holds
     ]

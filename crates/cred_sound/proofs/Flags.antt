@@ -1,6 +1,5 @@
 -- Each process that has threads has one flag, and no other has any.
-use Rattle.std.proofs.Common.{◌≡◌, ◌≢◌, ◌==◌, ◌&&◌, ◌||◌, not, ℕ, List, [], ◌∷◌, ◌++◌, map, find, is_some, Some, None, Option, Bool, true, false, cond, arith}
-use Rattle.std.proofs.Common.{refl, sym, ap, ◌∙◌, subst}
+use Rattle.std.proofs.Common.{◌≡◌, ◌≢◌, ◌==◌, ◌&&◌, ◌||◌, not, ℕ, List, [], ◌∷◌, ◌++◌, map, find, is_some, Some, None, Option, Bool, true, false, cond, arith, refl, sym, ap, ◌∙◌, subst}
 use Rattle.std.specs.List.{All, AllPairs, filter, list_any}
 use Rattle.std.specs.Option.{option_map, option_or}
 use Rattle.std.proofs.lemmas.Bool.{cond_both, eqb-true, eqb-false}
@@ -67,8 +66,7 @@ some-kept test p [] keeps = refl
 some-kept test p (x ∷ xs) keeps =
     let keeps_first = All-head (λ x. test x ≡ true → p x ≡ true) x xs keeps in
     let rest = some-kept test p xs (All-tail (λ x. test x ≡ true → p x ≡ true) x xs keeps) in
-    elim
-    (p x) as (λ b. (test x ≡ true → b ≡ true) → is_some (find test (cond b (x ∷ filter p xs) (filter p xs))) ≡ is_some (cond (test x) (Some x) (find test xs))) [
+    elim (p x) as (λ b. (test x ≡ true → b ≡ true) → is_some (find test (cond b (x ∷ filter p xs) (filter p xs))) ≡ is_some (cond (test x) (Some x) (find test xs))) [
       | true ↦ λ keep.
           elim (test x) as (λ a. is_some (cond a (Some x) (find test (filter p xs))) ≡ is_some (cond a (Some x) (find test xs))) [
             | true ↦ refl
@@ -143,8 +141,7 @@ lives_alone tasks owner task process is =
     elim (owner.process == process) as (λ b. (owner.process == process) ≡ b → lives (survivors (is_beside owner) tasks) process ≡ lives tasks process) [
       | true ↦ λ same.
           let own : (owner.number == owner.number) ≡ true = grind (arith, nat_tests) in
-          let stays : is_beside owner owner ≡ false =
-          ap (λ b. (owner.process == owner.process) && not b) own ∙ and_swap (owner.process == owner.process) false in
+          let stays : is_beside owner owner ≡ false = ap (λ b. (owner.process == owner.process) && not b) own ∙ and_swap (owner.process == owner.process) false in
           let on = find_goes_on (is_beside owner) tasks task owner is stays in
           some-found (is_thread_of process) (λ t. t.number == task) (survivors (is_beside owner) tasks) owner on.0 same
           ∙ sym (some-found (is_thread_of process) (λ t. t.number == task) tasks owner is same)
@@ -293,9 +290,7 @@ flags_exited tasks flags owner task differ is are =
     let number = found_number tasks task owner is in
     let beside = lives_beside tasks owner task number in
     let live = owner_lives tasks owner task is in
-    elim
-    (is_some (find (is_beside owner) tasks)) as (λ b. is_some (find (is_beside owner) tasks) ≡ b
-    → AreFlagged (survivors (is_task task) tasks) (cond b flags (without_flag flags owner.process))) [
+    elim (is_some (find (is_beside owner) tasks)) as (λ b. is_some (find (is_beside owner) tasks) ≡ b → AreFlagged (survivors (is_task task) tasks) (cond b flags (without_flag flags owner.process))) [
       | true ↦ λ some. record {
         apart = are.apart;
         own = λ p.
@@ -310,9 +305,7 @@ flags_exited tasks flags owner task differ is are =
         apart = AllPairs-filter (Differ process_of) (λ f. not (f.process == owner.process)) flags are.apart;
         own = λ p.
             flags_no_more flags owner.process p
-            ∙ elim
-            (owner.process == p) as (λ b. (owner.process == p) ≡ b
-            → (not (p == owner.process) && is_some (flag_in flags p)) ≡ lives (survivors (is_task task) tasks) p) [
+            ∙ elim (owner.process == p) as (λ b. (owner.process == p) ≡ b → (not (p == owner.process) && is_some (flag_in flags p)) ≡ lives (survivors (is_task task) tasks) p) [
               | true ↦ λ same.
                   let own : (p == owner.process) ≡ true = let is_own : owner.process ≡ p = eqb-true owner.process p same in grind (arith, nat_tests) in
                   ap (λ b. not b && is_some (flag_in flags p)) own
