@@ -128,8 +128,10 @@ module _ (s : State) (number task cast_at : ℕ) (cast : Broadcast) (owner : Tas
         ∙ in_free s (λ r. (Aborted task Full, aborted cast r)) (act_does task owner old new cast) sweep slot is for
         ∙ same sweep
         ∙ ap
-        (λ (k : ℕ).
-        (Acted task (length s.creds) slot k, record (replaced (swept_if sweep s) task old.number new slot) { casts = waits_no_more task s.casts; dumpable = renewed s.dumpable owner.process (differs old.cred new) }))
+        (λ (k : ℕ). (
+          Acted task (length s.creds) slot k,
+          record (replaced (swept_if sweep s) task old.number new slot) { casts = waits_no_more task s.casts; dumpable = renewed s.dumpable owner.process (differs old.cred new) },
+        ))
         fewer
       where
         same : (b : Bool)

@@ -144,8 +144,10 @@ pub init_leads : (s : State) (task process user group ns root number slot : ℕ)
 init_leads s task process user group ns root number slot sweep c tasks late flags old creds idle new few found is many same first ts cs ls fs =
     init_tests s task process user group ns root idle new few
     ∙ in_free s table_full
-    (λ r at.
-    (Sealed (length r.creds) at, record (created r (first_task task process (length r.creds)) (first_credential user group ns root) at) { dumpable = flags_begun r process }))
+    (λ r at. (
+      Sealed (length r.creds) at,
+      record (created r (first_task task process (length r.creds)) (first_credential user group ns root) at) { dumpable = flags_begun r process },
+    ))
     sweep slot found is
     ∙ done sweep
     ∙ rw (ts, cs, ls, fs, many, same, first) refl
@@ -153,7 +155,9 @@ init_leads s task process user group ns root number slot sweep c tasks late flag
     done : (b : Bool)
         → ◌≡◌ {A = Answer × State} (
           Sealed (length (swept_if b s).creds) slot,
-          record (created (swept_if b s) (first_task task process (length (swept_if b s).creds)) (first_credential user group ns root) slot) { dumpable = flags_begun (swept_if b s) process },
+          record (created (swept_if b s) (first_task task process (length (swept_if b s).creds)) (first_credential user group ns root) slot) {
+            dumpable = flags_begun (swept_if b s) process;
+          },
         ) (
           Sealed (length s.creds) slot,
           record s {

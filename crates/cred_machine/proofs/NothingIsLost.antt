@@ -175,8 +175,10 @@ begin_keeps script s line task call sound =
     let others = others_of owner s.tasks in
     let cast : Broadcast = record { number = line; process = owner.process; caller = task; call = call; waiting = others } in
     in_slots Q s table_full
-    (λ s slot.
-    (Began (length s.creds) slot (length others), record (replaced s task old.number new slot) { casts = with_cast s.casts cast; dumpable = renewed s.dumpable owner.process (differs old.cred new) }))
+    (λ s slot. (
+      Began (length s.creds) slot (length others),
+      record (replaced s task old.number new slot) { casts = with_cast s.casts cast; dumpable = renewed s.dumpable owner.process (differs old.cred new) },
+    ))
     (full s)
     (λ left slot is.
     let answer = Began (length s.creds) slot (length others) in
@@ -193,8 +195,10 @@ follow_keeps s cast task owner old (Err refusal) sound found at =
 follow_keeps s cast task owner old (Ok new) sound found at =
     let left_waiting = length cast.waiting - 1 in
     in_slots (Keeps s) s (λ now. (Aborted task cause.Full, aborted cast now))
-    (λ now slot.
-    (Acted task (length now.creds) slot left_waiting, record (replaced now task old.number new slot) { casts = waits_no_more task now.casts; dumpable = renewed now.dumpable owner.process (differs old.cred new) }))
+    (λ now slot. (
+      Acted task (length now.creds) slot left_waiting,
+      record (replaced now task old.number new slot) { casts = waits_no_more task now.casts; dumpable = renewed now.dumpable owner.process (differs old.cred new) },
+    ))
     (λ left is.
     let answer = Aborted task cause.Full in
     let t = record (ended (is_thread_of cast.process) (with_left s left)) { casts = dropped cast.process s.casts } in

@@ -163,11 +163,13 @@ those-beside owner (t ∷ ts) = step (t.process == owner.process) (t.number == o
         rest
         ∙ sym
         (ap
-        (λ (c : Bool). cond (not c) (t.number ∷ filter (is_other owner.number) (members ts owner.process)) (filter (is_other owner.number) (members ts owner.process)))
+        (λ (c : Bool). cond (not c) (t.number ∷ filter (is_other owner.number) (members ts owner.process))
+        (filter (is_other owner.number) (members ts owner.process)))
         is)
     step true false is rest =
         ap (λ (ns : List ℕ). t.number ∷ ns) rest
         ∙ sym
         (ap
-        (λ (c : Bool). cond (not c) (t.number ∷ filter (is_other owner.number) (members ts owner.process)) (filter (is_other owner.number) (members ts owner.process)))
+        (λ (c : Bool). cond (not c) (t.number ∷ filter (is_other owner.number) (members ts owner.process))
+        (filter (is_other owner.number) (members ts owner.process)))
         is)

@@ -83,7 +83,8 @@ executed_back cred slot ended gains fits = record {
   spaced =
       rw append-nil
       (ap (λ (text : List ℕ). 32 ∷ text)
-      (executed_parts (codes "ok") (codes " c") (decimal cred) (codes " s") (decimal slot) (codes " ended ") (decimal ended) (codes " gain") (codes " ") (hexadecimal gains.file) (hexadecimal gains.inherit) (hexadecimal gains.root)));
+      (executed_parts (codes "ok") (codes " c") (decimal cred) (codes " s") (decimal slot) (codes " ended ") (decimal ended) (codes " gain") (codes " ")
+      (hexadecimal gains.file) (hexadecimal gains.inherit) (hexadecimal gains.root)));
   plain =
       rw (
         decimal_inner cred fits.0,
@@ -148,7 +149,8 @@ ids_told uid gid fits = record {
   spaced =
       rw append-nil
       (ap (λ (text : List ℕ). 32 ∷ text)
-      (ids_parts (codes "ok") (codes " ") (decimal uid.real) (decimal uid.effective) (decimal uid.saved) (decimal uid.fs) (decimal gid.real) (decimal gid.effective) (decimal gid.saved) (decimal gid.fs)));
+      (ids_parts (codes "ok") (codes " ") (decimal uid.real) (decimal uid.effective) (decimal uid.saved) (decimal uid.fs) (decimal gid.real)
+      (decimal gid.effective) (decimal gid.saved) (decimal gid.fs)));
   plain =
       rw (
         decimal_plain uid.real (long_number uid.real (id_number uid.real fits.0.0)),

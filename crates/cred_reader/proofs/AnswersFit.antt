@@ -165,7 +165,8 @@ unfolding spec.three_words
 three_words_fit a b c =
     either (bytes_eq a (codes "no")) _ _ (no_fits b c)
     (either (bytes_eq a (codes "stale")) _ _
-    (then_holds _ FitsAnswer (two_of kinds.cred_of kinds.cred_of (b ∷ c ∷ [])) _ (two_holds IsLong IsLong kinds.cred_of kinds.cred_of cred_fits cred_fits (b ∷ c ∷ [])) (λ v h. h))
+    (then_holds _ FitsAnswer (two_of kinds.cred_of kinds.cred_of (b ∷ c ∷ [])) _
+    (two_holds IsLong IsLong kinds.cred_of kinds.cred_of cred_fits cred_fits (b ∷ c ∷ [])) (λ v h. h))
     (either (bytes_eq a (codes "too")) _ _
     (then_holds (λ counted. Unit {0}) FitsAnswer (ok_or (spec.counted_of c) Word) _ (any_holds (ok_or (spec.counted_of c) Word)) (λ v h. tt))
     (either (bytes_eq a (codes "aborted")) _ _

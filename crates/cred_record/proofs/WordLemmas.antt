@@ -185,7 +185,8 @@ pub sets-test : (c : Credential) → AllSets c → are_sets c ≡ true
 sets-test c h =
     both_true
     (both_true
-    (both_true (both_true (both_true (both_true (both_true (lt-ltb _ _ h.perm) (lt-ltb _ _ h.inh)) (lt-ltb _ _ h.eff)) (lt-ltb _ _ h.bound)) (lt-ltb _ _ h.amb)) (eq-eqb _ _ h.valid.effective))
+    (both_true (both_true (both_true (both_true (both_true (lt-ltb _ _ h.perm) (lt-ltb _ _ h.inh)) (lt-ltb _ _ h.eff)) (lt-ltb _ _ h.bound)) (lt-ltb _ _ h.amb))
+    (eq-eqb _ _ h.valid.effective))
     (eq-eqb _ _ h.valid.ambient))
     (eq-eqb _ _ h.valid.inheritable)
 

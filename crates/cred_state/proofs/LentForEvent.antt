@@ -39,7 +39,8 @@ module _ (s : State) (sound : IsSound s) where
       by (Some p) at none =
           absurd
           (there p.base
-          (found (λ (x : Prepared). x.base < length (map (λ (y : SealedCred). y.slot) s.creds)) (λ (x : Prepared). x.label == label) s.prepared p at each_sealed.bases).0
+          (found (λ (x : Prepared). x.base < length (map (λ (y : SealedCred). y.slot) s.creds)) (λ (x : Prepared). x.label == label) s.prepared
+          p at each_sealed.bases).0
           none)
 
 -- where something is found by the label, it is there

@@ -48,7 +48,10 @@ returns-clause-entered c =
     (let grown = longer ∙ ap (λ (answer : Answer). b.journal.items ++ entry c.line-line.result answer ∷ []) (sym made.answers)
     ∙ ap
     (λ (n : ℕ). b.journal.items ++ entry n
-    (answer_of (record { script = b.script; journal = b.journal.items; cursors = b.cursors; ended = b.ended.items; outs = b.outs.items; words = b.state.words; places = b.state.places }) n c.args.event) ∷ [])
+    (answer_of
+    (record { script = b.script; journal = b.journal.items; cursors = b.cursors; ended = b.ended.items; outs = b.outs.items; words = b.state.words; places = b.state.places })
+    n c.args.event)
+    ∷ [])
     number in
     λ k.
     record {
