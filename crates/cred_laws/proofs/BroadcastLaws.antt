@@ -62,8 +62,7 @@ none_by s event made process none (Shares task child of parent tasks creds curre
     inl (ap (found_in process) casts ∙ joined_none task child process s.casts none)
 none_by s event made process none (Shares task child of parent tasks creds current new (ByFork by is known unused casts flags)) =
     inl (no_change process s.casts made.1.casts casts none)
-none_by s event made process none
-(Renews task slot owner c ends tasks creds lives (ByBegin call before number at is has ruled unused idle none_end casts answered flags)) =
+none_by s event made process none (Renews task slot owner c ends tasks creds lives (ByBegin call before number at is has ruled unused idle none_end casts answered flags)) =
     let n = length s.creds in
     elim (owner.process == process) as (λ b. (owner.process == process) ≡ b → (found_in process made.1.casts ≡ None) ⊎ BeginsIn s made.1 process) [
       | true ↦ λ test. inr (
@@ -90,13 +89,11 @@ none_by s event made process none
           inl (ap (found_in process) casts
           ∙ begun_none process s.casts (begun number owner call s.tasks) (eqb-false owner.process process test) none)
     ] refl
-none_by s event made process none
-(Renews task slot owner c ends tasks creds lives (ByAct number at cast before is opened first has ruled none_end casts answered flags)) =
+none_by s event made process none (Renews task slot owner c ends tasks creds lives (ByAct number at cast before is opened first has ruled none_end casts answered flags)) =
     inl (ap (found_in process) casts ∙ left_none task process s.casts none)
 none_by s event made process none (Renews task slot owner c ends tasks creds lives (ByRaw call before at is has ruled idle none_end casts answered flags)) =
     inl (no_change process s.casts made.1.casts casts none)
-none_by s event made process none
-(Renews task slot owner c ends tasks creds lives (ByCommit label place at count p last is first there own changed same cred ending casts answered flags)) =
+none_by s event made process none (Renews task slot owner c ends tasks creds lives (ByCommit label place at count p last is first there own changed same cred ending casts answered flags)) =
     inl (ap (found_in process) casts ∙ committed_none process last.change owner s.casts none)
 none_by s event made process none (Overrides task numbers tasks refer casts flags) = inl (no_change process s.casts made.1.casts casts none)
 none_by s event made process none (Fewer ends tasks creds (ByExit task gone is known ending idle casts flags)) =
@@ -177,8 +174,7 @@ pub mapped : {X Y : Type 0} (f : X → Y) (o : Option X) (y : Y) → option_map 
 mapped f None y is = cc
 mapped f (Some x) y is = (x, refl, cc)
 
-module _ (P : Credential → Type 0) (kept : Kept P) (script : Script) (s : State) (line process : ℕ) (call : IdCall) (sound : IsSound s)
-(are : AreMade script s) where
+module _ (P : Credential → Type 0) (kept : Kept P) (script : Script) (s : State) (line process : ℕ) (call : IdCall) (sound : IsSound s) (are : AreMade script s) where
   -- the broadcast before the event, and its own steps
   abbrev HadBefore : Event → Type 0
   HadBefore event =

@@ -111,9 +111,7 @@ idle_differs s process idle cast is none same =
 
 -- ---- one case after another
 
-module _ (P : Credential → Type 0) (kept : Kept P) (script : Script) (s : State) (event : Event) (made : Answer × State) (process : ℕ) (cast : Broadcast)
-(sound : IsSound s) (are_made : AreMade script s) (is : cast_in s process ≡ Some cast) (before : Followed P s.creds s.tasks process cast.waiting)
-(own : OwnStep P s event made.0 cast) where
+module _ (P : Credential → Type 0) (kept : Kept P) (script : Script) (s : State) (event : Event) (made : Answer × State) (process : ℕ) (cast : Broadcast) (sound : IsSound s) (are_made : AreMade script s) (is : cast_in s process ≡ Some cast) (before : Followed P s.creds s.tasks process cast.waiting) (own : OwnStep P s event made.0 cast) where
   at : IsIn s process cast
   at = is_in s process cast sound is
 
@@ -266,8 +264,7 @@ module _ (P : Credential → Type 0) (kept : Kept P) (script : Script) (s : Stat
   renews task slot owner c ends (ByRaw call old at_slot raws has ruled idle none casts answered flags) lives tasks creds =
       Waits cast.waiting
       (beside ends task slot owner c lives tasks creds (idle_differs s process owner.process cast is idle)) (open_still casts)
-  renews task slot owner c ends (ByCommit label place at_slot count p last commits first there own changed same cred ending casts answered flags) lives tasks
-  creds =
+  renews task slot owner c ends (ByCommit label place at_slot count p last commits first there own changed same cred ending casts answered flags) lives tasks creds =
       committed_goes task slot owner c ends place p last last.change label commits refl there changed same cred ending casts lives tasks creds
 
   -- tasks end

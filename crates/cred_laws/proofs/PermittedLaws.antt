@@ -115,8 +115,7 @@ caused_gains script s event task owner ends old c made are current number (ByAct
     called_gains s task old before cast.call c current is ruled ∙ ap gain_told (sym answered)
 caused_gains script s event task owner ends old c made are current number (ByRaw call before slot by is ruled idle none casts answered flags) =
     called_gains s task old before call c current is ruled ∙ ap gain_told (sym answered)
-caused_gains script s event task owner ends old c made are current number
-(ByCommit label place slot count p last by first is own changed same cred ending casts answered flags) =
+caused_gains script s event task owner ends old c made are current number (ByCommit label place slot count p last by first is own changed same cred ending casts answered flags) =
     let one = All-at (IsMade script s.creds) s.prepared place p is are in
     let so = subst (λ o. IfSome o (IsChangedFrom script (numbered s.creds p.base))) changed one in
     let base : numbered s.creds p.base ≡ Some old = ap (numbered s.creds) (sym same ∙ number) ∙ under_number s task old current in

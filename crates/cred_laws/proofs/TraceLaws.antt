@@ -308,8 +308,7 @@ cause_clears s event task owner ends c made before found is differ (ByRaw call o
     ap (λ fs. is_dumpable fs owner.process) flags
     ∙ ap (λ b. is_dumpable (renewed s.dumpable owner.process b) owner.process) (ap (λ (n : Numbered). differs n.cred c) (sym one) ∙ differ)
     ∙ set_clear s.dumpable owner.process
-cause_clears s event task owner ends c made before found is differ
-(ByCommit label place slot count p last commits first at own changed same cred ending casts answered flags) =
+cause_clears s event task owner ends c made before found is differ (ByCommit label place slot count p last commits first at own changed same cred ending casts answered flags) =
     let here : numbered s.creds owner.current ≡ Some before = sym (ap (option_and_then (λ (t : Task). numbered s.creds t.current)) found) ∙ is in
     let other : differs_by s owner last ≡ true
     = ap (λ (o : Option Numbered). option_map_or (λ old. differs old.cred last.cred) o false) here
