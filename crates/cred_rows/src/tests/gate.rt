@@ -128,7 +128,7 @@ impl Held<'_> {
         }
         match side {
             Place::BeforeDecision => last == 0 || (last % 3 == 2 && last / 3 <= u64::from(line)),
-            Place::InDecision | Place::AfterDecision => last + 1 == place.distance(),
+            Place::InDecision | Place::AfterDecision => last.saturating_add(1) == place.distance(),
         }
     }
 
