@@ -1,6 +1,6 @@
 -- Which answers an id call and a change of sets or securebits may be given, by their arguments:
 -- what their rules answer to some caller, and what to none.
-use Rattle.std.specs.Prelude.{ℕ, Bool, true, false, ◌==◌, ◌&&◌, ◌||◌, not, nat_le, nat_lt, length}
+use Rattle.std.specs.Prelude.{Bool, true, false, ◌==◌, ◌&&◌, ◌||◌, not, nat_le, nat_lt, length}
 use Rattle.cred_ids.specs.Limits.{GROUP_LIMIT}
 use Rattle.cred_caps.specs.Caps.{empty, is_within}
 use Rattle.cred_record.specs.declared.id_call.IdCall.{IdCall}

@@ -284,11 +284,11 @@ may_tell (query.AmbIs cap) answer = cap_row cap answer
 may_tell (query.Check file want) answer = check_row answer
 
 -- what a change may be answered
-abbrev pub may_change : Change → Answer → Bool
-may_change (change.SetFs kind id) answer = setfs_row answer
-may_change (change.Adjust call) answer = adjust_row call answer
-may_change (change.Exec file) answer = exec_row answer
-may_change change.Access answer = access_row answer
+abbrev pub may_answer_change : Change → Answer → Bool
+may_answer_change (change.SetFs kind id) answer = setfs_row answer
+may_answer_change (change.Adjust call) answer = adjust_row call answer
+may_answer_change (change.Exec file) answer = exec_row answer
+may_answer_change change.Access answer = access_row answer
 
 -- what an event may be answered
 abbrev pub may_answer : Event → Answer → Bool
@@ -299,7 +299,7 @@ may_answer (event.Release label) answer = release_row answer
 may_answer (event.Ask label query) answer = may_tell query answer
 may_answer (event.Signal from hold to target) answer = signal_row answer
 may_answer (event.Prepare label task hold) answer = prepare_row answer
-may_answer (event.Alter label change) answer = may_change change answer
+may_answer (event.Alter label change) answer = may_answer_change change answer
 may_answer (event.Commit label) answer = commit_row answer
 may_answer (event.Abort label) answer = abort_row answer
 may_answer (event.Override task label) answer = override_row answer

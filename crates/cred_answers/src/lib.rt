@@ -1,4 +1,4 @@
-//! Which answers an event may be given, whatever the state.
+//! Which answers an event may be given, whatever the state. Read it as part of `cred_reader`.
 //!
 //! `specs/Rows` says it of each event, and `CallRows` of an id call and of a change of sets or
 //! securebits, by their arguments.

@@ -272,7 +272,7 @@ fn dumped_row(answer: &Answer) -> bool
 
 /// What a change may be answered.
 fn may_change(change: Change, answer: &Answer) -> bool
-    ensures { result ≡ spec.may_change change answer.now }
+    ensures { result ≡ spec.may_answer_change change answer.now }
 {
     match change {
         Change::SetFs(_, _) => setfs_row(answer),

@@ -1,8 +1,10 @@
 -- What clap makes of plain words: one or two of them are taken as they stand, and nothing else is.
-use Rattle.std.proofs.Common.{◌≡◌, ◌==◌, inl, inr, ℕ, Bool, true, false, not, ◌&&◌, List, [], ◌∷◌, Option, Some, None, Result, Ok, Err, option_map, codes, refl, sym, ap, ap₂, ◌∙◌, subst}
+use Rattle.std.proofs.Common.{◌≡◌, ◌==◌, inl, inr, ℕ, Bool, true, false, not, ◌&&◌, List, [], ◌∷◌, Option, Some, None, Result, Ok, Err, option_map, codes, refl}
+use Rattle.std.proofs.Common.{sym, ap, ap₂, ◌∙◌, subst}
 use Rattle.std.specs.List.{list_all}
 use Rattle.std.specs.Result.{IfOk}
-use Rattle.clap.specs.Words.{App, FailsBy, HasKind, HasMatchesOf, IsAmong, is_simple, Text, app_of, fault_of, first_of, first_value, found_of, is_simple_and_free, kind_of, matches_of, new_app, rows_of}
+use Rattle.clap.specs.Words.{App, FailsBy, HasKind, HasMatchesOf, IsAmong, is_simple, Text, app_of, fault_of, first_of, first_value, found_of}
+use Rattle.clap.specs.Words.{is_simple_and_free, kind_of, matches_of, new_app, rows_of}
 use Rattle.std.specs.Str.{bytes_eq}
 use Rattle.clap.specs.Faults.{step_fault, turn_fault, walk_fault, word_fault, defaults_fault}
 use Rattle.clap.specs.Kinds.{Kinds, or_else}
@@ -70,7 +72,8 @@ goes_on c position word h plain =
 
 turn : (s : Shape) (position : ℕ) (word : Text) (h : Held) → IsPlainWord word → turn_fault s [] (at h position) word ≡ step_fault s position h value
 turn s position word h plain =
-    ap₂ (λ (faults : Kinds) (m : Held × Step). or_else faults (step_fault s position m.0 m.1)) (no_word_fault s word h plain) (met s.rules position word h plain)
+    ap₂ (λ (faults : Kinds) (m : Held × Step). or_else faults (step_fault s position m.0 m.1)) (no_word_fault s word h plain)
+    (met s.rules position word h plain)
 
 -- ---- what the command makes of words
 

@@ -24,7 +24,7 @@ abbrev pub line : App
 line = with_rule (with_rule bare_line command) operand
 
 -- what clap gives for the words: what it found, if nothing in them is refused; else the first
--- fault, or lack of memory
+-- fault, or out of memory
 abbrev pub Finds : List Text → Result ArgMatches Error → Type 0
 Finds words given =
     MatchResult given

@@ -36,7 +36,7 @@ pub fn has_any(mode: u16, bits: u16) -> bool
 /// The mode with these bits unset.
 pub fn without(mode: u16, bits: u16) -> u16
     requires { IsMode bits }
-    ensures value { result ≡ modes.without mode bits }
+    ensures value { result ≡ modes.without_bits mode bits }
     ensures small { result ≤ mode }
 {
     mode & (LAST - bits)

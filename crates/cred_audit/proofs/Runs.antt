@@ -1,5 +1,6 @@
 -- A run of which a lane goes on by an event, or has none.
-use Rattle.std.proofs.Common.{◌≡◌, ℕ, ◌≤◌, ◌==◌, ◌&&◌, not, cond, Bool, true, false, List, [], ◌∷◌, ◌++◌, length, set, Option, Some, None, is_some, is_none, MatchBool, refl, sym, ap, ◌∙◌, subst, arith}
+use Rattle.std.proofs.Common.{◌≡◌, ℕ, ◌≤◌, ◌==◌, ◌&&◌, not, cond, Bool, true, false, List, [], ◌∷◌, ◌++◌, length, set, Option, Some, None, is_some, is_none}
+use Rattle.std.proofs.Common.{MatchBool, refl, sym, ap, ◌∙◌, subst, arith}
 use Rattle.std.specs.List.{list_all}
 use Rattle.std.specs.Option.{IfSome, option_map, option_and_then}
 use Rattle.cred_ids.specs.Limits.{LINE_LIMIT}
@@ -18,11 +19,11 @@ use Rattle.cred_model.proofs.Likes.{does_like, like_self}
 use Rattle.cred_sound.specs.Sound.{IsSound}
 use Rattle.cred_sound.proofs.Sound.{like_sound, sound_after}
 use Rattle.cred_script.specs.Lines.{line_at}
-use Rattle.cred_cursor.specs.Cursor.{IsOfLine, MovesOnTo}
-use Rattle.cred_cursor.specs.LaneCursors.{AreCursors, cursor_of, due_of, waits}
-use Rattle.cred_cursor.proofs.AllLanes.{is_due, no_cursor, some_cursor}
-use Rattle.cred_cursor.proofs.Lanes.{lane_makes_due, lane_of_line, lane_of_course, SoFar-push}
-use Rattle.cred_cursor.proofs.Turns.{next_by, next_none, next_some, stands_at, lanes_go_on}
+use Rattle.cred_course.specs.Cursor.{IsOfLine, MovesOnTo}
+use Rattle.cred_course.specs.LaneCursors.{AreCursors, cursor_of, due_of, waits}
+use Rattle.cred_course.proofs.AllLanes.{is_due, no_cursor, some_cursor}
+use Rattle.cred_course.proofs.Lanes.{lane_makes_due, lane_of_line, lane_of_course, SoFar-push}
+use Rattle.cred_course.proofs.Turns.{next_by, next_none, next_some, stands_at, lanes_go_on}
 use Rattle.cred_audit.specs.Run.{IsRunAfter, IsRun, GoesOn, RunHasEnded, IsLeft}
 use Rattle.cred_audit.specs.declared.run.Run.{Run}
 

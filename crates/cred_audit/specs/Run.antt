@@ -8,7 +8,7 @@ use Rattle.cred_model.specs.Script.{Script}
 use Rattle.cred_model.specs.Like.{IsLike}
 use Rattle.cred_model.specs.Journal.{SoFar, next, replay}
 use Rattle.cred_report.specs.Text.{entry_text}
-use Rattle.cred_cursor.specs.LaneCursors.{AreCursors}
+use Rattle.cred_course.specs.LaneCursors.{AreCursors}
 use Rattle.cred_audit.specs.Next.{ComesNext}
 use Rattle.cred_audit.specs.declared.run.Run.{Run}
 

@@ -1,4 +1,4 @@
-//! Whether a text is the report of a script: the text of one of its legal journals.
+//! `audit`: whether a text is the report of a script, and where it goes wrong.
 //!
 //! `specs/Report` says which texts these are, and which entry of another is the first that is
 //! wrong. `audit` runs the script, and compares the text of each entry with what the report has in

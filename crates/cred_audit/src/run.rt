@@ -2,7 +2,7 @@
 ghost use Rattle.std.specs.Prelude.{◌≡◌, [], IfOk, OnErr, MatchBool};
 ghost use Rattle.cred_audit.specs.Run.{GoesOn, RunHasEnded, IsRunAfter, IsLeft, IsRun};
 
-use cred_cursor::{Cursors, cursor_after, next_event};
+use cred_course::{Cursors, cursor_after, next_event};
 use cred_event::Entry;
 use cred_ids::NoMemory;
 use cred_machine::CachedState;

@@ -8,8 +8,7 @@ use crate::lane::lane_at;
 use crate::run::Run;
 use cred_event::Entry;
 use cred_ids::NoMemory;
-use cred_pen::Pen;
-use cred_report::prepend;
+use cred_report::{Pen, prepend};
 use cred_script::Script;
 use std::alloc::Global;
 

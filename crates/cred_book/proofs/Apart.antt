@@ -1,5 +1,6 @@
 -- The next events of two lanes have no label in common.
-use Rattle.std.proofs.Common.{◌≡◌, ◌≢◌, ℕ, suc, ◌+◌, ◌<◌, ◌≤◌, ◌==◌, cond, Bool, true, false, List, [], ◌∷◌, get_or, slice_get, All, AllPairs, inl, inr, Option, Some, None, refl, sym, ap, ◌∙◌, subst, arith}
+use Rattle.std.proofs.Common.{◌≡◌, ◌≢◌, ℕ, suc, ◌+◌, ◌<◌, ◌≤◌, ◌==◌, cond, Bool, true, false, List, [], ◌∷◌, get_or, slice_get, All, AllPairs, inl, inr, Option}
+use Rattle.std.proofs.Common.{Some, None, refl, sym, ap, ◌∙◌, subst, arith}
 use Rattle.std.specs.List.{Contains, fold}
 use Rattle.std.specs.Option.{option_and_then, option_map_or}
 use Rattle.std.proofs.lemmas.Bool.{cases_order}
@@ -124,7 +125,8 @@ words_small : (lines : List Line) (k : ℕ) (line : Line) (label : ℕ) → AreN
     → label ≤ LAST_NUMBER
 words_small lines k line label named at has =
     let within = slice_get_within lines k line at in
-    let small = subst (λ (l : Line). All (λ label. label ≤ LAST_NUMBER) (labels l.content)) (get_or_from_slice_get lines k line line at) (named.small k line within) in
+    let small =
+    subst (λ (l : Line). All (λ label. label ≤ LAST_NUMBER) (labels l.content)) (get_or_from_slice_get lines k line line at) (named.small k line within) in
     All-contains (λ label. label ≤ LAST_NUMBER) (labels line.content) label small has
 
 -- two places of different lanes, neither of which is the setup

@@ -1,5 +1,6 @@
 -- The numbers of a script of which nothing has run, counted line by line.
-use Rattle.std.proofs.Common.{◌≡◌, ℕ, zero, suc, ◌+◌, ◌-◌, ◌<◌, ◌≤◌, ◌==◌, ◌&&◌, Bool, true, false, List, [], ◌∷◌, length, set, drop, get_or, replicate, slice_get, All, Option, Some, None, is_none, is_some, refl, sym, ap, ◌∙◌, subst, inl, inr, arith}
+use Rattle.std.proofs.Common.{◌≡◌, ℕ, zero, suc, ◌+◌, ◌-◌, ◌<◌, ◌≤◌, ◌==◌, ◌&&◌, Bool, true, false, List, [], ◌∷◌, length, set, drop, get_or, replicate}
+use Rattle.std.proofs.Common.{slice_get, All, Option, Some, None, is_none, is_some, refl, sym, ap, ◌∙◌, subst, inl, inr, arith}
 use Rattle.std.proofs.lemmas.Bool.{cases_eq, cases_lt}
 use Rattle.std.proofs.lemmas.Bool.Decides.{nat_tests}
 use Rattle.std.proofs.lemmas.List.{get_or-replicate, get_or-set_other, get_or-set_same, get_or_past, length-replicate, length-set}
@@ -130,7 +131,9 @@ counted_one script ended number line so at small over within = record {
   small = small_more script ended number line so at small;
 }
   where
-    by : (lane : ℕ) → get_or (set ended line.lane (get_or ended line.lane 0 + 1)) lane 0 + ended_from [] lane (number + 1) (drop (number + 1 - 1) script.lines) ≡ ended_of script [] lane
+    by : (lane : ℕ)
+        → get_or (set ended line.lane (get_or ended line.lane 0 + 1)) lane 0 + ended_from [] lane (number + 1) (drop (number + 1 - 1) script.lines)
+        ≡ ended_of script [] lane
     by lane =
         let left = left_by script number lane line so.first at in
         elim (cases_eq line.lane lane) [

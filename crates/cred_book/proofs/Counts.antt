@@ -1,5 +1,6 @@
 -- The numbers of a lane, from entry to entry.
-use Rattle.std.proofs.Common.{◌≡◌, ◌≢◌, ℕ, zero, suc, ◌+◌, ◌<◌, ◌≤◌, ◌==◌, ◌&&◌, cond, Bool, true, false, List, [], ◌∷◌, ◌++◌, length, slice_get, Option, Some, None, is_none, refl, sym, ap, ◌∙◌, subst, arith}
+use Rattle.std.proofs.Common.{◌≡◌, ◌≢◌, ℕ, zero, suc, ◌+◌, ◌<◌, ◌≤◌, ◌==◌, ◌&&◌, cond, Bool, true, false, List, [], ◌∷◌, ◌++◌, length, slice_get, Option, Some}
+use Rattle.std.proofs.Common.{None, is_none, refl, sym, ap, ◌∙◌, subst, arith}
 use Rattle.std.specs.List.{sum_by}
 use Rattle.std.specs.Option.{IfSome, option_map_or}
 use Rattle.std.proofs.lemmas.Bool.Decides.{nat_tests}
@@ -44,10 +45,12 @@ line_stays journal entry lane n line other = by (line.lane == lane) other
   where
     by : (b : Bool) → (b ≡ true → entry.line ≢ n)
         → count_of (b && is_none (next_event (journal ++ entry ∷ []) n line.content)) ≡ count_of (b && is_none (next_event journal n line.content))
-    by true other = ap (λ answers. count_of (is_none (event_at line.content (leads n line.content answers)))) (answers_of-push_other journal entry n (other refl))
+    by true other =
+        ap (λ answers. count_of (is_none (event_at line.content (leads n line.content answers)))) (answers_of-push_other journal entry n (other refl))
     by false other = refl
 
-elsewhere_behind : (entry : Entry) (lane n : ℕ) (line : Line) (lines : List Line) → IsElsewhere entry lane n (line ∷ lines) → IsElsewhere entry lane (n + 1) lines
+elsewhere_behind : (entry : Entry) (lane n : ℕ) (line : Line) (lines : List Line) → IsElsewhere entry lane n (line ∷ lines)
+    → IsElsewhere entry lane (n + 1) lines
 elsewhere_behind entry lane n line lines other k =
     let up : suc k + n ≡ k + (n + 1) = omega arith in
     subst (λ m. IfSome (slice_get lines k) (λ (l : Line). (l.lane == lane) ≡ true → entry.line ≢ m)) up (other (suc k))

@@ -1,5 +1,6 @@
 -- A step of a lane, and what it makes.
-use Rattle.std.proofs.Common.{◌≡◌, ℕ, zero, suc, ◌+◌, ◌<◌, ◌≤◌, List, [], ◌∷◌, ◌++◌, get_or, length, replicate, set, Option, Some, None, is_some, Bool, true, false, MatchOption, refl, sym, ap, ◌∙◌, subst, inl, inr, arith}
+use Rattle.std.proofs.Common.{◌≡◌, ℕ, zero, suc, ◌+◌, ◌<◌, ◌≤◌, List, [], ◌∷◌, ◌++◌, get_or, length, replicate, set, Option, Some, None, is_some, Bool, true}
+use Rattle.std.proofs.Common.{false, MatchOption, refl, sym, ap, ◌∙◌, subst, inl, inr, arith}
 use Rattle.std.specs.List.{count_by, flat_map, range_with_len, sum_by}
 use Rattle.std.specs.Option.{IfSome, option_map, option_and_then}
 use Rattle.std.proofs.lemmas.List.{length-replicate, length-set}
@@ -9,28 +10,28 @@ use Rattle.cred_ids.specs.Limits.{LINE_LIMIT}
 use Rattle.cred_record.specs.Credential.{Credential}
 use Rattle.cred_event.specs.declared.event.Event.{Event}
 use Rattle.cred_event.specs.declared.entry.Entry.{Entry}
-use Rattle.cred_model.specs.Changing.{FixesFiles}
+use Rattle.cred_model.specs.FileChanges.{FixesFiles}
 use Rattle.cred_model.specs.Script.{Script, Line, SetupFirst}
 use Rattle.cred_model.specs.Course as model
 use Rattle.cred_model.specs.Course.{Course, Leads, event_at}
 use Rattle.cred_model.specs.Journal.{SoFar, entry_of, next, replay}
 use Rattle.cred_script.specs.Lines.{line_at}
 use Rattle.cred_script.specs.Lanes.{lanes}
-use Rattle.cred_cursor.specs.Cursor.{IsLaneCursor, IsOfLine, MovesOnTo, left_at}
-use Rattle.cred_cursor.specs.LaneCursors.{AreCursors, AreOver, IsLeast, cursor_of, due_of}
-use Rattle.cred_cursor.proofs.AllLanes.{cursor_at}
-use Rattle.cred_cursor.proofs.Courses.{line_is, of_line}
-use Rattle.cred_cursor.proofs.Lanes.{SoFar-push, due_here, lane_goes_on, lane_makes_due, lane_of_course, lane_of_line}
-use Rattle.cred_cursor.proofs.Least.{least_due, least_is_due, none_due}
-use Rattle.cred_cursor.proofs.Turns.{due_is, lanes_go_on, next_none, next_some, stands_at}
+use Rattle.cred_course.specs.Cursor.{IsLaneCursor, IsOfLine, MovesOnTo, left_at}
+use Rattle.cred_course.specs.LaneCursors.{AreCursors, AreOver, IsLeast, cursor_of, due_of}
+use Rattle.cred_course.proofs.AllLanes.{cursor_at}
+use Rattle.cred_course.proofs.Courses.{line_is, of_line}
+use Rattle.cred_course.proofs.Lanes.{SoFar-push, due_here, lane_goes_on, lane_makes_due, lane_of_course, lane_of_line}
+use Rattle.cred_course.proofs.Least.{least_due, least_is_due, none_due}
+use Rattle.cred_course.proofs.Turns.{due_is, lanes_go_on, next_none, next_some, stands_at}
 use Rattle.cred_hold.specs.Tokens as token
 use Rattle.cred_tables.specs.Kept.{Words}
 use Rattle.cred_tables.specs.Out.{needs_tokens}
-use Rattle.cred_left.proofs.Stages.{stage_is}
+use Rattle.cred_course.proofs.StagesLeft.{stage_is}
 use Rattle.cred_book.specs.Book.{Recorded, out_of}
 use Rattle.cred_book.specs.Counts.{AreEnded, Counts, HasEntered, IsSameOrNext, count_of, ended_of, lines_in}
 use Rattle.cred_book.specs.Cursor.{NoLineIsLeft, IsLeastLane, steps_left, BookStands, Makes}
-use Rattle.cred_left.specs.Waiting.{waiting}
+use Rattle.cred_course.specs.Waiting.{waiting}
 use Rattle.cred_book.specs.Cursor.{has_left}
 use Rattle.cred_book.specs.Works.{AreNamedApart, IsOutOf, lane_tokens}
 use Rattle.cred_book.specs.declared.step.Step.TheVariants as step
@@ -39,7 +40,7 @@ use Rattle.cred_book.proofs.Counts.{entered_other, entered_own, lines_few}
 use Rattle.cred_book.proofs.Decided.{decided_other, decided_own}
 use Rattle.cred_book.proofs.Left.{all_grow, all_have_ended, lane_in, one_left, others_stay, own_grows, set_up_stays}
 use Rattle.cred_book.proofs.Lent.{lane_tokens_none}
-use Rattle.cred_left.proofs.Measure.{step_falls}
+use Rattle.cred_course.proofs.Measure.{step_falls}
 use Rattle.cred_book.proofs.Works.{GoesOn, IsNowOut, after, grown, lent_stays, out_in, where_some, works_stay}
 
 -- ---- a step
@@ -167,7 +168,8 @@ no_work book n lane is = none_out book.outs n lane is
 
 no_tokens : (book : Recorded) (lanes : List ℕ) → ((lane : ℕ) → out_of book lane ≡ None) → flat_map (λ lane. lane_tokens book lane) lanes ≡ []
 no_tokens book [] none = refl
-no_tokens book (lane ∷ lanes) none = ap (λ es. es ++ flat_map (λ lane. lane_tokens book lane) lanes) (lane_tokens_none book lane (none lane)) ∙ no_tokens book lanes none
+no_tokens book (lane ∷ lanes) none =
+    ap (λ es. es ++ flat_map (λ lane. lane_tokens book lane) lanes) (lane_tokens_none book lane (none lane)) ∙ no_tokens book lanes none
 
 -- what is so of a book of which nothing has run
 pub record IsNew (book : Recorded) : Type 0 where

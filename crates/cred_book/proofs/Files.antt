@@ -7,16 +7,16 @@ use Rattle.cred_event.specs.declared.event.Event.{Event}
 use Rattle.cred_event.specs.declared.entry.Entry.{Entry}
 use Rattle.cred_model.specs.Script.{Script, Line}
 use Rattle.cred_model.specs.State.{State}
-use Rattle.cred_model.specs.Changing.{ChangesInSetup, FixesFiles, event_changes}
+use Rattle.cred_model.specs.FileChanges.{ChangesInSetup, FixesFiles, event_changes}
 use Rattle.cred_model.specs.Course.{Course, event_at}
 use Rattle.cred_model.specs.Journal.{entry_of, replay}
-use Rattle.cred_model.proofs.Changing.{event_of_change}
+use Rattle.cred_model.proofs.FileChanges.{event_of_change}
 use Rattle.cred_model.proofs.Journals.{replay-push}
 use Rattle.cred_sound.proofs.Infos.{keeps_infos}
-use Rattle.cred_cursor.specs.Cursor.{IsLaneCursor}
-use Rattle.cred_cursor.proofs.Courses.{line_is}
-use Rattle.cred_cursor.proofs.Lanes.{same_lane}
-use Rattle.cred_cursor.proofs.Turns.{stands_at}
+use Rattle.cred_course.specs.Cursor.{IsLaneCursor}
+use Rattle.cred_course.proofs.Courses.{line_is}
+use Rattle.cred_course.proofs.Lanes.{same_lane}
+use Rattle.cred_course.proofs.Turns.{stands_at}
 use Rattle.cred_book.specs.Book.{Recorded, infos_in}
 use Rattle.cred_book.proofs.Nexts.{event_of}
 use Rattle.cred_book.proofs.Works.{GoesOn, grown}

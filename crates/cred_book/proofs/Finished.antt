@@ -13,7 +13,7 @@ use Rattle.cred_model.specs.Journal.{Due, due_in, replay}
 use Rattle.cred_names.specs.Labels.{event_labels}
 use Rattle.cred_sound.specs.Sound.{IsSound}
 use Rattle.cred_script.specs.Lines.{line_at}
-use Rattle.cred_cursor.proofs.Courses.{line_at-place}
+use Rattle.cred_course.proofs.Courses.{line_at-place}
 use Rattle.cred_words.specs.Lists.{Has}
 use Rattle.cred_hold.specs.Tokens.{Loan, Held, Written, loan}
 use Rattle.atomic_table.specs.Seated.{TableId}

@@ -16,9 +16,9 @@ use Rattle.cred_model.specs.Course.{Course, event_at, event_in}
 use Rattle.cred_model.specs.Journal.{entry_of, next, replay}
 use Rattle.cred_model.specs.Named.{event_files}
 use Rattle.cred_script.specs.Lines.{line_at}
-use Rattle.cred_cursor.specs.Cursor.{MovesOnTo}
-use Rattle.cred_cursor.specs.LaneCursors.{due_of}
-use Rattle.cred_cursor.proofs.Turns.{next_some}
+use Rattle.cred_course.specs.Cursor.{MovesOnTo}
+use Rattle.cred_course.specs.LaneCursors.{due_of}
+use Rattle.cred_course.proofs.Turns.{next_some}
 use Rattle.cred_sound.proofs.Sound.{sound_after}
 use Rattle.cred_words.specs.Lists.{Has}
 use Rattle.cred_hold.specs.Tokens.{Loan, loan}
@@ -201,8 +201,11 @@ enters_more {book = book} {lane = lane} {course = course} {event = event} {to = 
 pub work_course : (book : Recorded) (lane : ℕ) (work : Work) → BookStands book → IsLanes book lane work
     → (out : IsOutOf book lane work.line) × MakesNext book.script book.cursors lane (record { line = work.line; event = out.event })
 work_course book lane work stands is =
-    let out = work_of book lane work.line stands is.out in
-    (out, next_course book.script book.journal book.cursors lane (record { line = work.line; event = out.event }) stands.cursors (work_next book lane work.line out))
+    let out = work_of book lane work.line stands is.out in (
+      out,
+      next_course book.script book.journal book.cursors lane (record { line = work.line; event = out.event }) stands.cursors
+          (work_next book lane work.line out),
+    )
 
 pub course_is : (book : Recorded) (lane : ℕ) (work : Work) (course : Course) → BookStands book → IsLanes book lane work → due_of book.cursors lane ≡ Some course
     → course.line ≡ work.line
@@ -239,7 +242,8 @@ at_home book lane = record book { outs = set book.outs lane None }
 pub comes_back : (book entered : Recorded) (lane : ℕ) (course : Course) (to : Option Course) (work : Work) → BookStands book
     → AreOut (replay book.script book.journal) book.words.out → IsLanes book lane work → due_of book.cursors lane ≡ Some course
     → IsEntered book entered work
-    → IfSome (line_at book.script course.line) (λ line. MovesOnTo book.script lane (model.after line.content course (answer_of book course.line (its_event work.lent))) to)
+    → IfSome (line_at book.script course.line)
+    (λ line. MovesOnTo book.script lane (model.after line.content course (answer_of book course.line (its_event work.lent))) to)
     → ComesBack book (moved_on (at_home entered lane) lane course.line to) lane work
 comes_back book entered lane course to work stands are is due back passes =
     subst (λ b. ComesBack book (moved_on (at_home b lane) lane course.line to) lane work) (sym entered_is) made
@@ -287,7 +291,8 @@ comes_back book entered lane course to work stands are is due back passes =
     now : IsNowOut book.outs (set book.outs lane None) lane None
     now = out_set book.outs lane None (lane_has_out book lane course stands due)
 
-    m : Moves book (after book lane course (its_event work.lent) to (set book.outs lane None) entered.words entered.places) lane (count_of (needs_tokens (replay book.script book.journal) (its_event work.lent)))
+    m : Moves book (after book lane course (its_event work.lent) to (set book.outs lane None) entered.words entered.places) lane
+        (count_of (needs_tokens (replay book.script book.journal) (its_event work.lent)))
     m = moves goes (set book.outs lane None) entered.words entered.places now returned
 
     entered_is : entered ≡ back_in book course.line (its_event work.lent) entered.words entered.places
@@ -298,10 +303,16 @@ comes_back book entered lane course to work stands are is due back passes =
       script = refl;
       cells = back.words.id;
       stands = m.stands;
-      made = makes_back book (moved_on (at_home (back_in book course.line (its_event work.lent) entered.words entered.places) lane) lane course.line to) lane (next book.script book.journal lane)
+      made =
+          makes_back book (moved_on (at_home (back_in book course.line (its_event work.lent) entered.words entered.places) lane) lane course.line to) lane
+          (next book.script book.journal lane)
           (entry_of book.script book.journal (record { line = course.line; event = (its_event work.lent) })) work
           (next_some book.script book.journal book.cursors lane course (its_event work.lent) stands.cursors due goes.has) line refl refl refl back.words;
       falls = m.falls;
-      counts = subst (λ b. HasEntered book (moved_on (at_home (back_in book course.line (its_event work.lent) entered.words entered.places) lane) lane course.line to) lane (count_of b)) waits m.counts;
+      counts =
+          subst
+          (λ b. HasEntered book (moved_on (at_home (back_in book course.line (its_event work.lent) entered.words entered.places) lane) lane course.line to) lane
+          (count_of b))
+          waits m.counts;
       files = files_stay goes;
     }

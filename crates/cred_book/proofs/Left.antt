@@ -1,5 +1,6 @@
 -- Which lines a lane has left, by its cursor, and what an entry does to the numbers of all lanes.
-use Rattle.std.proofs.Common.{◌≡◌, ◌≢◌, ℕ, ◌+◌, ◌<◌, ◌==◌, ◌&&◌, not, cond, Bool, true, false, List, [], ◌∷◌, ◌++◌, length, set, get_or, slice_get, Option, Some, None, is_none, is_some, refl, sym, ap, ◌∙◌, subst, inl, inr, ◌⊎◌, arith}
+use Rattle.std.proofs.Common.{◌≡◌, ◌≢◌, ℕ, ◌+◌, ◌<◌, ◌==◌, ◌&&◌, not, cond, Bool, true, false, List, [], ◌∷◌, ◌++◌, length, set, get_or, slice_get, Option}
+use Rattle.std.proofs.Common.{Some, None, is_none, is_some, refl, sym, ap, ◌∙◌, subst, inl, inr, ◌⊎◌, arith}
 use Rattle.std.specs.Option.{IfSome, option_and_then}
 use Rattle.std.proofs.lemmas.Bool.{cases_eq, cases_order}
 use Rattle.std.proofs.lemmas.Bool.Decides.{nat_tests}
@@ -11,12 +12,12 @@ use Rattle.cred_model.specs.Course.{Course, event_at, leads}
 use Rattle.cred_model.specs.Journal.{due_in, next_event}
 use Rattle.cred_model.proofs.Lines.{answers_of-push_other}
 use Rattle.cred_script.specs.Lanes.{lanes}
-use Rattle.cred_cursor.specs.Cursor.{IsLaneCursor}
-use Rattle.cred_cursor.specs.LaneCursors.{AreCursors, cursor_of, due_of}
-use Rattle.cred_cursor.proofs.AllLanes.{is_due, other_cursor}
-use Rattle.cred_cursor.proofs.Courses.{line_is, next_is}
-use Rattle.cred_cursor.proofs.Lanes.{lane_makes_due, lane_over}
-use Rattle.cred_cursor.proofs.Turns.{due_is}
+use Rattle.cred_course.specs.Cursor.{IsLaneCursor}
+use Rattle.cred_course.specs.LaneCursors.{AreCursors, cursor_of, due_of}
+use Rattle.cred_course.proofs.AllLanes.{is_due, other_cursor}
+use Rattle.cred_course.proofs.Courses.{line_is, next_is}
+use Rattle.cred_course.proofs.Lanes.{lane_makes_due, lane_over}
+use Rattle.cred_course.proofs.Turns.{due_is}
 use Rattle.cred_book.specs.Counts.{AreEnded, count_of, ended_of, lines_in}
 use Rattle.cred_book.specs.Cursor.{has_left}
 use Rattle.cred_book.proofs.Counts.{ended_all, ended_fewer, ended_grows, ended_others, lane_within}

@@ -1,5 +1,6 @@
 -- What is lent for the works of a book, and under which labels.
-use Rattle.std.proofs.Common.{◌≡◌, ◌≢◌, ℕ, ◌<◌, ◌==◌, cond, Bool, true, List, [], ◌∷◌, ◌++◌, get_or, length, ◌⊎◌, inl, inr, Option, Some, None, is_some, refl, sym, ap, ◌∙◌, subst, arith}
+use Rattle.std.proofs.Common.{◌≡◌, ◌≢◌, ℕ, ◌<◌, ◌==◌, cond, Bool, true, List, [], ◌∷◌, ◌++◌, get_or, length, ◌⊎◌, inl, inr, Option, Some, None, is_some, refl}
+use Rattle.std.proofs.Common.{sym, ap, ◌∙◌, subst, arith}
 use Rattle.std.specs.List.{Contains, count_by, range_with_len}
 use Rattle.std.specs.Option.{IfSome, option_map_or}
 use Rattle.std.proofs.lemmas.Bool.{eqb-true, eq-eqb}
@@ -105,7 +106,9 @@ lane_tokens_are book lane line out work =
 
 pub lane_tokens_none : (book : Recorded) (lane : ℕ) → out_of book lane ≡ None → lane_tokens book lane ≡ []
 lane_tokens_none book lane none =
-    ap (λ o. cond (is_some o) (option_map_or (λ (due : Due). tokens_in (replay book.script book.journal) due.event) (due_in book.script book.journal lane) []) []) none
+    ap
+    (λ o. cond (is_some o) (option_map_or (λ (due : Due). tokens_in (replay book.script book.journal) due.event) (due_in book.script book.journal lane) []) [])
+    none
 
 -- a work that is out, one of whose tokens passes the test
 pub record HasLent (book : Recorded) (test : Loan → Bool) : Type 0 where

@@ -8,11 +8,11 @@ use Rattle.cred_model.specs.Script.{Script, Line}
 use Rattle.cred_model.specs.Course.{Course, event_at}
 use Rattle.cred_model.specs.Journal.{Due, due_in}
 use Rattle.cred_script.specs.Lines.{line_at}
-use Rattle.cred_cursor.specs.Cursor.{IsLaneCursor}
-use Rattle.cred_cursor.specs.LaneCursors.{AreCursors, cursor_of, due_of, waits}
-use Rattle.cred_cursor.proofs.AllLanes.{is_due, other_cursor}
-use Rattle.cred_cursor.proofs.Lanes.{lane_due, lane_makes_due, lane_over}
-use Rattle.cred_cursor.proofs.Turns.{due_is, stands_at}
+use Rattle.cred_course.specs.Cursor.{IsLaneCursor}
+use Rattle.cred_course.specs.LaneCursors.{AreCursors, cursor_of, due_of, waits}
+use Rattle.cred_course.proofs.AllLanes.{is_due, other_cursor}
+use Rattle.cred_course.proofs.Lanes.{lane_due, lane_makes_due, lane_over}
+use Rattle.cred_course.proofs.Turns.{due_is, stands_at}
 use Rattle.cred_book.proofs.Apart.{IsNext}
 
 -- the event of the line that a cursor stands on

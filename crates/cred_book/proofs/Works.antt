@@ -1,5 +1,6 @@
 -- The works that are out when another lane has one entry more, or when a lane's own work goes out or comes back.
-use Rattle.std.proofs.Common.{◌≡◌, ◌≢◌, ℕ, zero, suc, ◌+◌, ◌<◌, Bool, true, List, [], ◌∷◌, ◌++◌, length, set, slice_get, ◌⊎◌, inl, inr, Option, Some, None, refl, sym, ap, ◌∙◌, subst, arith}
+use Rattle.std.proofs.Common.{◌≡◌, ◌≢◌, ℕ, zero, suc, ◌+◌, ◌<◌, Bool, true, List, [], ◌∷◌, ◌++◌, length, set, slice_get, ◌⊎◌, inl, inr, Option, Some, None}
+use Rattle.std.proofs.Common.{refl, sym, ap, ◌∙◌, subst, arith}
 use Rattle.std.specs.List.{All, Contains, count_by, range_with_len, sum_by}
 use Rattle.std.specs.Option.{IfSome, option_and_then}
 use Rattle.std.proofs.lemmas.Bool.{cases_eq}
@@ -16,9 +17,9 @@ use Rattle.cred_model.proofs.Journals.{replay-push}
 use Rattle.cred_names.specs.Labels.{event_labels}
 use Rattle.cred_sound.proofs.Sound.{sound_after}
 use Rattle.cred_script.specs.Lines.{line_at}
-use Rattle.cred_cursor.specs.Cursor.{MovesOnTo}
-use Rattle.cred_cursor.specs.LaneCursors.{AreCursors, due_of}
-use Rattle.cred_cursor.proofs.Turns.{lanes_go_on}
+use Rattle.cred_course.specs.Cursor.{MovesOnTo}
+use Rattle.cred_course.specs.LaneCursors.{AreCursors, due_of}
+use Rattle.cred_course.proofs.Turns.{lanes_go_on}
 use Rattle.cred_hold.specs.Tokens.{Loan}
 use Rattle.cred_work.specs.declared.lent.Lent.{Lent}
 use Rattle.cred_tables.specs.Kept.{Words}

@@ -7,13 +7,13 @@ use Rattle.std.specs.Option.{option_map_or}
 use Rattle.cred_ids.specs.Limits.{LINE_LIMIT}
 use Rattle.cred_event.specs.declared.entry.Entry.{Entry}
 use Rattle.cred_model.specs.Course.{Course}
-use Rattle.cred_model.specs.Changing.{FixesFiles}
+use Rattle.cred_model.specs.FileChanges.{FixesFiles}
 use Rattle.cred_model.specs.Script.{SetupFirst}
 use Rattle.cred_model.specs.Journal.{SoFar, lane_of, next, next_in_order, replay}
 use Rattle.cred_script.specs.Lanes.{lanes}
-use Rattle.cred_cursor.specs.Cursor.{left_at}
-use Rattle.cred_cursor.specs.LaneCursors.{AreCursors}
-use Rattle.cred_left.specs.Waiting.{waiting}
+use Rattle.cred_course.specs.Cursor.{left_at}
+use Rattle.cred_course.specs.LaneCursors.{AreCursors}
+use Rattle.cred_course.specs.Waiting.{waiting}
 use Rattle.cred_tables.specs.Out.{AreSameTokens, needs_tokens}
 use Rattle.cred_work.specs.Decisions.{work_event}
 use Rattle.cred_work.specs.Work.{Work}

@@ -1,18 +1,18 @@
 //! What a book of a script has before anything has run.
 ghost use Rattle.std.specs.Prelude.{◌≡◌, ◌≤◌, ◌+◌, [], length, replicate, None, IfOk, OnOk};
 ghost use Rattle.cred_ids.specs.Limits.{LINE_LIMIT};
-ghost use Rattle.cred_model.specs.Changing.{FixesFiles};
+ghost use Rattle.cred_model.specs.FileChanges.{FixesFiles};
 ghost use Rattle.cred_model.specs.Script.{SetupFirst};
 ghost use Rattle.cred_model.specs.State.{opening};
 ghost use Rattle.cred_script.specs.Lanes.{lanes};
-ghost use Rattle.cred_cursor.specs.LaneCursors.{AreCursors};
+ghost use Rattle.cred_course.specs.LaneCursors.{AreCursors};
 ghost use Rattle.cred_book.specs.Counts.{AreEnded};
 ghost use Rattle.cred_book.specs.Works.{AreNamedApart};
 
 use crate::ended::lines_without_events;
 use crate::journal::room_for_entries;
 use crate::outs::none_out;
-use cred_cursor::Cursors;
+use cred_course::Cursors;
 use cred_event::Entry;
 use cred_hold::Cells;
 use cred_ids::NoMemory;
@@ -32,7 +32,7 @@ pub(crate) struct Beginning {
     pub(crate) outs: Vec<Option<u32>>,
 }
 
-/// All that a book of the script has but the script, which is only lent: so it isn't let go of on
+/// All that a book of the script has but the script, which is only lent: so it isn't dropped on
 /// each way out of here.
 ///
 /// # Errors

@@ -8,7 +8,7 @@ ghost use Rattle.cred_model.specs.Journal.{replay};
 ghost use Rattle.cred_model.specs.Named.{IsEventOf};
 ghost use Rattle.cred_model.specs.Slots.{uses};
 ghost use Rattle.cred_script.specs.Lines.{line_at};
-ghost use Rattle.cred_cursor.specs.Cursor.{IsOfLine, MovesOnTo};
+ghost use Rattle.cred_course.specs.Cursor.{IsOfLine, MovesOnTo};
 ghost use Rattle.cred_tables.specs.Kept.{AreInPlace};
 ghost use Rattle.cred_tables.specs.Out.{AreHome};
 ghost use Rattle.cred_book.specs.Book.{with_event, answer_of, infos_in, out_of};
@@ -23,8 +23,7 @@ use crate::beginning::{Beginning, begin};
 use crate::journal::Journal;
 use crate::step::Step;
 use cred_copies::copy_answer;
-use cred_course::Course;
-use cred_cursor::{Cursors, cursor_after, next_event};
+use cred_course::{Course, Cursors, cursor_after, next_event};
 use cred_event::{Answer, Entry, Event};
 use cred_hold::Cells;
 use cred_ids::NoMemory;
@@ -78,8 +77,8 @@ impl Model for Book {
         × AreOut (replay b.script b.journal.items) b.state.words.out };
 }
 
-/// Written out, so that it is proved here alone: of a derived one, each crate above that lets go of
-/// a book proves all parts anew.
+/// Written out, so that it is proved here alone: of a derived one, each crate above that drops a
+/// book proves all parts anew.
 impl Drop for Book {
     fn drop(self) {
         let Book {

@@ -1,7 +1,7 @@
 //! How many lines have ended before anything has run.
 ghost use Rattle.std.specs.Prelude.{◌≡◌, ◌≤◌, ◌+◌, [], length, IfOk, OnOk};
 ghost use Rattle.cred_ids.specs.Limits.{LINE_LIMIT};
-ghost use Rattle.cred_model.specs.Changing.{FixesFiles};
+ghost use Rattle.cred_model.specs.FileChanges.{FixesFiles};
 ghost use Rattle.cred_model.specs.Script.{SetupFirst};
 ghost use Rattle.cred_script.specs.Lanes.{lanes};
 ghost use Rattle.cred_book.specs.Counts.{AreEnded};

@@ -14,7 +14,7 @@ pub enum Step {
     Ended,
 }
 
-/// Want of memory while a work's event was entered. The work is handed back as it was.
+/// Memory ran out while a work's event was entered. The work is handed back as it was.
 #[derive(Drop)]
 pub struct Unfinished {
     /// The work, which is still out.

@@ -5,12 +5,12 @@ use Rattle.std.proofs.lemmas.Bool.{eqb-true}
 use Rattle.cred_rules.specs.Attribute.{SpellsSet, high_in}
 use Rattle.cred_filecap.proofs.SetLemmas.{same-set}
 use Rattle.cred_capdata.specs.declared.data.CapData.{CapData}
-use Rattle.cred_capdata.specs.Record.{Spells, is_version, word_of, version_word, eff_low, eff_high}
-use Rattle.cred_capdata.specs.Record.{perm_low, perm_high, inh_low, inh_high}
-use Rattle.cred_capdata.specs.Laws.{NoBytesSpellTwo}
+use Rattle.cred_capdata.specs.Record.{SpellsData, is_data_version, word_of_version, version_word, eff_word_0, eff_word_1}
+use Rattle.cred_capdata.specs.Record.{perm_word_0, perm_word_1, inh_word_0, inh_word_1}
+use Rattle.cred_capdata.specs.Laws.{NoBytesSpellTwoRecords}
 
 -- which version it is
-pub which : (version : ℕ) → IsTrue (is_version version)
+pub which : (version : ℕ) → IsTrue (is_data_version version)
     → (version ≡ 1) ⊎ ((version ≡ 2) ⊎ (version ≡ 3))
 which version known =
     elim (version == 1) as
@@ -24,12 +24,12 @@ which version known =
           ] refl
     ] refl
 
-apart : (a b m n : ℕ) → a ≡ m → b ≡ n → word_of a ≡ word_of b → (word_of m ≡ word_of n → ⊥) → ⊥
+apart : (a b m n : ℕ) → a ≡ m → b ≡ n → word_of_version a ≡ word_of_version b → (word_of_version m ≡ word_of_version n → ⊥) → ⊥
 apart a b m n is other same differ =
-    differ (ap word_of (sym is) ∙ same ∙ ap word_of other)
+    differ (ap word_of_version (sym is) ∙ same ∙ ap word_of_version other)
 
 -- two versions have two words
-same-version : (a b : ℕ) → IsTrue (is_version a) → IsTrue (is_version b) → word_of a ≡ word_of b
+same-version : (a b : ℕ) → IsTrue (is_data_version a) → IsTrue (is_data_version b) → word_of_version a ≡ word_of_version b
     → a ≡ b
 same-version a b a_known b_known same =
     elim (which a a_known) [
@@ -51,18 +51,18 @@ same-version a b a_known b_known same =
     ]
 
 -- no bytes spell two records
-pub no_bytes_spell_two : NoBytesSpellTwo
+pub no_bytes_spell_two : NoBytesSpellTwoRecords
 no_bytes_spell_two bytes a b one other =
     let version : a.version ≡ b.version =
     same-version a.version b.version one.known other.known (sym one.word ∙ other.word) in
     let eff = same-set _ _ a.eff b.eff one.eff
-    (subst (λ v. SpellsSet (eff_low bytes) (high_in v (eff_high bytes)) b.eff)
+    (subst (λ v. SpellsSet (eff_word_0 bytes) (high_in v (eff_word_1 bytes)) b.eff)
     (sym version) other.eff) in
     let perm = same-set _ _ a.perm b.perm one.perm
-    (subst (λ v. SpellsSet (perm_low bytes) (high_in v (perm_high bytes)) b.perm)
+    (subst (λ v. SpellsSet (perm_word_0 bytes) (high_in v (perm_word_1 bytes)) b.perm)
     (sym version) other.perm) in
     let inh = same-set _ _ a.inh b.inh one.inh
-    (subst (λ v. SpellsSet (inh_low bytes) (high_in v (inh_high bytes)) b.inh)
+    (subst (λ v. SpellsSet (inh_word_0 bytes) (high_in v (inh_word_1 bytes)) b.inh)
     (sym version) other.inh) in
     let target = one.target ∙ sym other.target in
     (λ i. record {

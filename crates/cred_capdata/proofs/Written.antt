@@ -10,11 +10,11 @@ use Rattle.cred_rules.specs.Bits.{has_bit}
 use Rattle.cred_filecap.proofs.SetLemmas.{high-canonical}
 use Rattle.cred_filecap.proofs.WordLemmas.{word-bytes}
 use Rattle.cred_capdata.specs.declared.data.CapData.{CapData}
-use Rattle.cred_capdata.specs.Record.{Spells, IsCanonical, HasBytes, word_of, size_of, is_version}
+use Rattle.cred_capdata.specs.Record.{SpellsData, IsCanonicalData, HasBytes, word_of_version, size_of, is_data_version}
 
 -- the words of a record
 pub record AreWords (d : CapData) (v el pl il eh ph ih : ℕ) : Type 0 where
-  pub word : v ≡ word_of d.version
+  pub word : v ≡ word_of_version d.version
   pub v_fits : v < 2 ^ 32
   pub t_fits : d.target < 2 ^ 32
   pub eff : SpellsSet el eh d.eff
@@ -90,11 +90,11 @@ in-one_word low high s is small = record {
 
 -- what was written
 pub record IsWritten (bytes : List ℕ) (d : CapData) : Type 0 where
-  pub spells : Spells bytes d
-  pub canonical : IsCanonical bytes
+  pub spells : SpellsData bytes d
+  pub canonical : IsCanonicalData bytes
 
 canonical : (bytes : List ℕ) (eh ph ih : ℕ) → HasSecond bytes eh ph ih → eh < 2 ^ 9 → ph < 2 ^ 9
-    → ih < 2 ^ 9 → IsCanonical bytes
+    → ih < 2 ^ 9 → IsCanonicalData bytes
 canonical bytes eh ph ih has eh_small ph_small ih_small = record {
   eff = λ i from to. ap (λ x. has_bit x i) has.eff ∙ high-canonical eh i eh_small from;
   perm = λ i from to. ap (λ x. has_bit x i) has.perm ∙ high-canonical ph i ph_small from;

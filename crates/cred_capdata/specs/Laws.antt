@@ -1,8 +1,9 @@
 -- A law of the record.
 use Rattle.std.specs.Prelude.{◌≡◌, ℕ, List}
 use Rattle.cred_capdata.specs.declared.data.CapData.{CapData}
-use Rattle.cred_capdata.specs.Record.{Spells}
+use Rattle.cred_capdata.specs.Record.{SpellsData}
 
 -- no bytes spell two records
-abbrev pub NoBytesSpellTwo : Type 0
-NoBytesSpellTwo = (bytes : List ℕ) (a b : CapData) → Spells bytes a → Spells bytes b → a ≡ b
+abbrev pub NoBytesSpellTwoRecords : Type 0
+NoBytesSpellTwoRecords =
+    (bytes : List ℕ) (a b : CapData) → SpellsData bytes a → SpellsData bytes b → a ≡ b

@@ -3,7 +3,7 @@ ghost use Rattle.std.specs.Prelude.{◌≡◌, ◌≢◌, ◌+◌, ◌≤◌, Ok
 ghost use Rattle.cred_rules.specs.Attribute.{SpellsSet, high_in, word_at};
 ghost use Rattle.cred_capdata.specs.declared.data.CapData.{CapData as Data};
 ghost use Rattle.std.specs.Result.{result_ok};
-ghost use Rattle.cred_capdata.specs.Record.{Spells, data_of, refusal_of};
+ghost use Rattle.cred_capdata.specs.Record.{SpellsData, data_of, data_refusal_of};
 
 use crate::data::CapData;
 use crate::refusal::DataRefusal;
@@ -40,11 +40,11 @@ fn set_at(bytes: &[u8], version: u8, place: usize) -> CapSet
 ///   version's: 20 for version 1, and 32 for the others.
 /// - `BadVersion` has the first word of at least 8 bytes where it is no version.
 pub fn read_data(bytes: &[u8]) -> Result<CapData, DataRefusal>
-    ensures value { IfOk result (λ d. Spells bytes.now d) }
+    ensures value { IfOk result (λ d. SpellsData bytes.now d) }
 
     // No bytes that spell a record are refused, or read as another.
-    ensures each_value { (d : Data) → Spells bytes.now d → result ≡ Ok d }
-    ensures refusal { IfErr result (λ e. e ≡ refusal_of bytes.now) }
+    ensures each_value { (d : Data) → SpellsData bytes.now d → result ≡ Ok d }
+    ensures refusal { IfErr result (λ e. e ≡ data_refusal_of bytes.now) }
     ensures function { result_ok result ≡ data_of bytes.now }
 {
     record_of(bytes)
@@ -52,9 +52,9 @@ pub fn read_data(bytes: &[u8]) -> Result<CapData, DataRefusal>
 
 /// The same, by the relation alone.
 fn record_of(bytes: &[u8]) -> Result<CapData, DataRefusal>
-    ensures value { IfOk result (λ d. Spells bytes.now d) }
-    ensures each_value { (d : Data) → Spells bytes.now d → result ≡ Ok d }
-    ensures refusal { IfErr result (λ e. e ≡ refusal_of bytes.now) }
+    ensures value { IfOk result (λ d. SpellsData bytes.now d) }
+    ensures each_value { (d : Data) → SpellsData bytes.now d → result ≡ Ok d }
+    ensures refusal { IfErr result (λ e. e ≡ data_refusal_of bytes.now) }
 {
     if bytes.len() < 8 {
         return Err(DataRefusal::BadLength(bytes.len()));

@@ -37,9 +37,9 @@ pub fn version_of(word: u32) -> Option<u8>
 }
 
 /// The word that names a version.
-pub fn word_of(version: u8) -> u32
-    requires { IsTrue (spec.is_version version) }
-    ensures { result ≡ spec.word_of version }
+pub fn word_of_version(version: u8) -> u32
+    requires { IsTrue (spec.is_data_version version) }
+    ensures { result ≡ spec.word_of_version version }
 {
     match version {
         1 => WORD_1,

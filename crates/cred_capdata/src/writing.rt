@@ -1,9 +1,9 @@
 //! A record written.
 ghost use Rattle.std.specs.Prelude.{IfOk};
-ghost use Rattle.cred_capdata.specs.Record.{Spells, IsCanonical, HasBytes};
+ghost use Rattle.cred_capdata.specs.Record.{SpellsData, IsCanonicalData, HasBytes};
 
 use crate::data::CapData;
-use crate::version::{LENGTH, length_of, word_of};
+use crate::version::{LENGTH, length_of, word_of_version};
 use byteorder::{ByteOrder, LittleEndian};
 use cred_filecap::words_of;
 use cred_ids::NoMemory;
@@ -18,15 +18,15 @@ use std::alloc::Global;
 /// `NoMemory` if the allocation of the bytes fails.
 pub fn write_data(alloc: Global, caps: &CapData) -> Result<Attr, NoMemory>
     requires { HasBytes caps.now }
-    ensures spells { IfOk result (λ bytes. Spells bytes caps.now) }
-    ensures canonical { IfOk result (λ bytes. IsCanonical bytes) }
+    ensures spells { IfOk result (λ bytes. SpellsData bytes caps.now) }
+    ensures canonical { IfOk result (λ bytes. IsCanonicalData bytes) }
 {
     let target = caps.target;
     let eff = words_of(caps.eff);
     let perm = words_of(caps.perm);
     let inh = words_of(caps.inh);
     let words = [
-        word_of(caps.version),
+        word_of_version(caps.version),
         target,
         eff.low,
         perm.low,

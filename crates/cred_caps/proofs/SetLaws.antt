@@ -1,9 +1,11 @@
 -- The laws of sets, at the numbers that stand for them.
-use Rattle.std.proofs.Common.{◌≡◌, ◌↔◌, ℕ, zero, suc, ◌-◌, ◌^◌, ◌<◌, ◌&&◌, ◌||◌, ◌==◌, not, Bool, true, false, refl, sym, ap, subst, ◌∙◌, arith, inl, inr, min, max}
+use Rattle.std.proofs.Common.{◌≡◌, ◌↔◌, ℕ, zero, suc, ◌-◌, ◌^◌, ◌<◌, ◌&&◌, ◌||◌, ◌==◌, not, Bool, true, false, refl, sym, ap, subst, ◌∙◌, arith, inl, inr, min}
+use Rattle.std.proofs.Common.{max}
 use Rattle.std.specs.Int.{bit_at, w64}
 use Rattle.std.proofs.lemmas.Bool.{cases_lt, eqb-true, eqb-false}
 use Rattle.std.proofs.lemmas.Nat.{pow_below}
-use Rattle.std.proofs.lemmas.Nat.Bits.{bit_at_and, bit_at_or, bit_at-lt, bit_at-zero, bit_at_ones, bit_at-pow_same, bit_at-pow_other, bit_at_above, bit_at_not, same_from_bits}
+use Rattle.std.proofs.lemmas.Nat.Bits.{bit_at_and, bit_at_or, bit_at-lt, bit_at-zero, bit_at_ones, bit_at-pow_same, bit_at-pow_other, bit_at_above, bit_at_not}
+use Rattle.std.proofs.lemmas.Nat.Bits.{same_from_bits}
 use Rattle.cred_caps.specs.Caps.{Caps, IsCap, IsCaps, empty, full, has, union, meet, less, with, without, IsWithin}
 use Rattle.cred_caps.specs.Sets.{AreSets}
 
@@ -83,7 +85,8 @@ pub meet-within_right : (a b c : Caps) → IsWithin b c → IsWithin (meet a b) 
 meet-within_right a b c bc = within-trans (meet a b) b c (meet-right a b) bc
 
 -- what the invariant of a credential needs
-pub ruleset within = (within_itself, meet-left, meet-right, meet-middle, within-union_left, within-union_right, union-within, meet-within_left, meet-within_right)
+pub ruleset within =
+    (within_itself, meet-left, meet-right, meet-middle, within-union_left, within-union_right, union-within, meet-within_left, meet-within_right)
 
 -- ---- members of each operation
 

@@ -1,6 +1,6 @@
 pub mod Choices
 pub mod NameLemmas
-pub mod FrontLemmas
+pub mod PrefixLemmas
 pub mod Forward
 pub mod Places
 pub mod Tails

@@ -10,9 +10,9 @@ use Rattle.std.proofs.lemmas.List.FromFn.{map-range_with_len_more}
 use Rattle.std.proofs.lemmas.Nat.Bits.{bit_at_above}
 use Rattle.cred_caps.specs.Caps.{Caps, IsCap, IsCaps, empty, has, with}
 use Rattle.cred_caps.proofs.SetLaws.{has-with, has-empty, same_caps}
-use Rattle.cred_captext.specs.Names.{name_of}
-use Rattle.cred_captext.specs.Printed.{members_below, members}
-use Rattle.cred_captext.specs.Pieces.{joined, comma_text, are_some}
+use Rattle.cred_captext.specs.Names.{small_name}
+use Rattle.cred_captext.specs.Printed.{cap_numbers_below, cap_numbers}
+use Rattle.cred_captext.specs.Pieces.{comma_names, comma_text, are_some}
 
 -- ---- one more number
 
@@ -23,25 +23,25 @@ range-more n =
     ∙ ap (λ xs. xs ++ n ∷ []) (map-id (range_with_len 0 n))
 
 pub members-more : (n : ℕ) (set : Caps)
-    → members_below (n + 1) set ≡ members_below n set ++ cond (has set n) (n ∷ []) []
-unfolding members_below
+    → cap_numbers_below (n + 1) set ≡ cap_numbers_below n set ++ cond (has set n) (n ∷ []) []
+unfolding cap_numbers_below
 members-more n set =
     ap (filter (has set)) (range-more n) ∙ filter-append (has set) (range_with_len 0 n) (n ∷ [])
 
-pub members-none : (set : Caps) → members_below 0 set ≡ []
-unfolding members_below
+pub members-none : (set : Caps) → cap_numbers_below 0 set ≡ []
+unfolding cap_numbers_below
 members-none set = refl
 
 pub members-with : (n : ℕ) (set : Caps) → has set n ≡ true
-    → members_below (n + 1) set ≡ members_below n set ++ n ∷ []
+    → cap_numbers_below (n + 1) set ≡ cap_numbers_below n set ++ n ∷ []
 members-with n set is =
-    members-more n set ∙ ap (λ t. members_below n set ++ cond t (n ∷ []) []) is
+    members-more n set ∙ ap (λ t. cap_numbers_below n set ++ cond t (n ∷ []) []) is
 
 pub members-without : (n : ℕ) (set : Caps) → has set n ≡ false
-    → members_below (n + 1) set ≡ members_below n set
+    → cap_numbers_below (n + 1) set ≡ cap_numbers_below n set
 members-without n set is =
-    members-more n set ∙ ap (λ t. members_below n set ++ cond t (n ∷ []) []) is
-    ∙ append-nil (members_below n set)
+    members-more n set ∙ ap (λ t. cap_numbers_below n set ++ cond t (n ∷ []) []) is
+    ∙ append-nil (cap_numbers_below n set)
 
 -- ---- they are capabilities
 
@@ -54,16 +54,16 @@ one-cap : (n : ℕ) (t : Bool) → IsCap n → AllByRecursion IsCap (cond t (n �
 one-cap n true cap = (cap, tt)
 one-cap n false cap = tt
 
-pub members-are : (n : ℕ) (set : Caps) → n ≤ 41 → AllByRecursion IsCap (members_below n set)
+pub members-are : (n : ℕ) (set : Caps) → n ≤ 41 → AllByRecursion IsCap (cap_numbers_below n set)
 members-are zero set small = subst (AllByRecursion IsCap) (sym (members-none set)) tt
 members-are (suc n) set small =
-    let more : members_below (suc n) set ≡ members_below n set ++ cond (has set n) (n ∷ []) [] =
-    ap (λ k. members_below k set) (let e : suc n ≡ n + 1 = omega arith in e)
+    let more : cap_numbers_below (suc n) set ≡ cap_numbers_below n set ++ cond (has set n) (n ∷ []) [] =
+    ap (λ k. cap_numbers_below k set) (let e : suc n ≡ n + 1 = omega arith in e)
     ∙ members-more n set in
     let below : n ≤ 41 = omega arith in
     let cap : IsCap n = omega arith in
     subst (AllByRecursion IsCap) (sym more)
-    (all-append IsCap (members_below n set) (cond (has set n) (n ∷ []) []) (members-are n set below)
+    (all-append IsCap (cap_numbers_below n set) (cond (has set n) (n ∷ []) []) (members-are n set below)
     (one-cap n (has set n) cap))
 
 -- ---- they are the set
@@ -119,16 +119,16 @@ without-step k n x other =
     ]
 
 folded-more : (n : ℕ) (set : Caps) (k : ℕ)
-    → ((j : ℕ) → has (fold with empty (members_below n set)) j ≡ (nat_lt j n && has set j))
-    → has (fold with empty (members_below (n + 1) set)) k ≡ (nat_lt k (n + 1) && has set k)
+    → ((j : ℕ) → has (fold with empty (cap_numbers_below n set)) j ≡ (nat_lt j n && has set j))
+    → has (fold with empty (cap_numbers_below (n + 1) set)) k ≡ (nat_lt k (n + 1) && has set k)
 folded-more n set k below =
     elim (has set n) as
     (λ t. has set n ≡ t
-    → has (fold with empty (members_below (n + 1) set)) k ≡ (nat_lt k (n + 1) && has set k)) [
+    → has (fold with empty (cap_numbers_below (n + 1) set)) k ≡ (nat_lt k (n + 1) && has set k)) [
       | true ↦ λ is.
           ap (λ xs. has (fold with empty xs) k) (members-with n set is)
-          ∙ ap (λ s. has s k) (fold-append with empty (members_below n set) (n ∷ []))
-          ∙ has-with (fold with empty (members_below n set)) n k
+          ∙ ap (λ s. has s k) (fold-append with empty (cap_numbers_below n set) (n ∷ []))
+          ∙ has-with (fold with empty (cap_numbers_below n set)) n k
           ∙ ap (λ t. t || (n == k)) (below k)
           ∙ with-step k n (has set k) (λ same. ap (has set) same ∙ is)
       | false ↦ λ is.
@@ -138,12 +138,12 @@ folded-more n set k below =
     ] refl
 
 folded : (n : ℕ) (set : Caps) (k : ℕ)
-    → has (fold with empty (members_below n set)) k ≡ (nat_lt k n && has set k)
+    → has (fold with empty (cap_numbers_below n set)) k ≡ (nat_lt k n && has set k)
 folded zero set k =
     ap (λ xs. has (fold with empty xs) k) (members-none set) ∙ has-empty k
     ∙ ap (λ t. t && has set k) (sym (le-ltb k 0 (omega arith)))
 folded (suc n) set k =
-    subst (λ m. has (fold with empty (members_below m set)) k ≡ (nat_lt k m && has set k))
+    subst (λ m. has (fold with empty (cap_numbers_below m set)) k ≡ (nat_lt k m && has set k))
     (let e : n + 1 ≡ suc n = omega arith in e)
     (folded-more n set k (folded n set))
 
@@ -158,16 +158,16 @@ in-set set k caps =
     ]
 
 -- the set of its members
-pub members-set : (set : Caps) → IsCaps set → fold with empty (members set) ≡ set
+pub members-set : (set : Caps) → IsCaps set → fold with empty (cap_numbers set) ≡ set
 members-set set caps =
-    same_caps (fold with empty (members set)) set (λ k. folded 41 set k ∙ in-set set k caps)
+    same_caps (fold with empty (cap_numbers set)) set (λ k. folded 41 set k ∙ in-set set k caps)
 
 -- ---- how they are written
 
 pub joined-more : (ns : List ℕ) (n : ℕ)
-    → joined (ns ++ n ∷ []) ≡ joined ns ++ (comma_text (are_some ns) ++ name_of n)
-joined-more [] n = append-nil (name_of n)
-joined-more (m ∷ ns) n = sym (flat_map_more (λ k. 44 ∷ name_of k) (name_of m) ns n)
+    → comma_names (ns ++ n ∷ []) ≡ comma_names ns ++ (comma_text (are_some ns) ++ small_name n)
+joined-more [] n = append-nil (small_name n)
+joined-more (m ∷ ns) n = sym (flat_map_more (λ k. 44 ∷ small_name k) (small_name m) ns n)
 
 some-more : (ns : List ℕ) (n : ℕ) → are_some (ns ++ n ∷ []) ≡ true
 some-more [] n = refl
@@ -175,30 +175,30 @@ some-more (m ∷ ns) n = refl
 
 -- what was written of the members below a number, and whether it is something
 pub record AreWritten (before after : List ℕ) (behind : Bool) (n : ℕ) (set : Caps) : Type 0 where
-  pub text : after ≡ before ++ joined (members_below n set)
-  pub comma : behind ≡ are_some (members_below n set)
+  pub text : after ≡ before ++ comma_names (cap_numbers_below n set)
+  pub comma : behind ≡ are_some (cap_numbers_below n set)
 
 pub written-none : (before : List ℕ) (set : Caps) → AreWritten before before false 0 set
 written-none before set = record {
-  text = sym (ap (λ ns. before ++ joined ns) (members-none set) ∙ append-nil before);
+  text = sym (ap (λ ns. before ++ comma_names ns) (members-none set) ∙ append-nil before);
   comma = ap are_some (sym (members-none set));
 }
 
 pub written-with : (before after next : List ℕ) (comma : Bool) (n cap : ℕ) (set : Caps)
     → AreWritten before after comma n set → cap ≡ n → has set cap ≡ true
-    → next ≡ after ++ (comma_text comma ++ name_of cap) → AreWritten before next true (n + 1) set
+    → next ≡ after ++ (comma_text comma ++ small_name cap) → AreWritten before next true (n + 1) set
 written-with before after next comma n cap set are same member is =
     let holds : has set n ≡ true = sym (ap (has set) same) ∙ member in
     record {
       text = is
-          ∙ ap (λ k. after ++ (comma_text comma ++ name_of k)) same
-          ∙ ap (λ t. after ++ (comma_text t ++ name_of n)) are.comma
-          ∙ ap (λ x. x ++ (comma_text (are_some (members_below n set)) ++ name_of n)) are.text
-          ∙ append_assoc before (joined (members_below n set))
-          (comma_text (are_some (members_below n set)) ++ name_of n)
-          ∙ ap (λ x. before ++ x) (sym (joined-more (members_below n set) n))
-          ∙ ap (λ ns. before ++ joined ns) (sym (members-with n set holds));
-      comma = sym (ap are_some (members-with n set holds) ∙ some-more (members_below n set) n);
+          ∙ ap (λ k. after ++ (comma_text comma ++ small_name k)) same
+          ∙ ap (λ t. after ++ (comma_text t ++ small_name n)) are.comma
+          ∙ ap (λ x. x ++ (comma_text (are_some (cap_numbers_below n set)) ++ small_name n)) are.text
+          ∙ append_assoc before (comma_names (cap_numbers_below n set))
+          (comma_text (are_some (cap_numbers_below n set)) ++ small_name n)
+          ∙ ap (λ x. before ++ x) (sym (joined-more (cap_numbers_below n set) n))
+          ∙ ap (λ ns. before ++ comma_names ns) (sym (members-with n set holds));
+      comma = sym (ap are_some (members-with n set holds) ∙ some-more (cap_numbers_below n set) n);
     }
 
 pub written-without : (before after : List ℕ) (comma : Bool) (n cap : ℕ) (set : Caps)
@@ -207,6 +207,6 @@ pub written-without : (before after : List ℕ) (comma : Bool) (n cap : ℕ) (se
 written-without before after comma n cap set are same other =
     let holds : has set n ≡ false = sym (ap (has set) same) ∙ other in
     record {
-      text = are.text ∙ ap (λ ns. before ++ joined ns) (sym (members-without n set holds));
+      text = are.text ∙ ap (λ ns. before ++ comma_names ns) (sym (members-without n set holds));
       comma = are.comma ∙ ap are_some (sym (members-without n set holds));
     }

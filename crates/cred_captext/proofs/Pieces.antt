@@ -8,12 +8,12 @@ use Rattle.cred_captext.specs.declared.action.Operator.TheVariants.{Reset}
 use Rattle.cred_captext.specs.declared.action.Letter.{Letter}
 use Rattle.cred_captext.specs.declared.action.Letter.TheVariants.{Inheritable, Permitted}
 use Rattle.cred_captext.specs.Grammar.{Named, Clause, letter_byte}
-use Rattle.cred_captext.specs.Grammar.{listed_text, action_text, clause_text, text_of}
+use Rattle.cred_captext.specs.Grammar.{listed_text, action_text, clause_text, clauses_text}
 use Rattle.cred_caps.specs.Caps.{Caps, IsCaps, empty, meet, less, with}
 use Rattle.cred_rules.specs.Attribute.{Attribute}
-use Rattle.cred_captext.specs.Printed.{members_below, members, with_flag, clause, clauses_of}
+use Rattle.cred_captext.specs.Printed.{cap_numbers_below, cap_numbers, with_flag, clause, clauses_of}
 use Rattle.cred_captext.specs.Printed.{clauses, some_clauses}
-use Rattle.cred_captext.specs.Pieces.{joined, spaced, action_with, clause_with, with_clause}
+use Rattle.cred_captext.specs.Pieces.{comma_names, spaced, action_with, clause_with, with_clause}
 use Rattle.cred_captext.specs.Pieces.{or_none}
 use Rattle.cred_captext.proofs.Members.{members-set}
 
@@ -61,9 +61,9 @@ pub clause-more : (cs : List Clause) (ns : List ℕ) (effective : Bool) (letters
 clause-more cs [] effective letters = ap texts (sym (append-nil cs))
 clause-more cs (n ∷ ns) effective letters =
     let action = action_text (record { operator = Reset; letters = with_flag effective letters }) in
-    append_assoc (spaced (texts cs)) (joined (n ∷ ns))
+    append_assoc (spaced (texts cs)) (comma_names (n ∷ ns))
     (action_with effective (map letter_byte letters))
-    ∙ ap (λ x. spaced (texts cs) ++ (joined (n ∷ ns) ++ x))
+    ∙ ap (λ x. spaced (texts cs) ++ (comma_names (n ∷ ns) ++ x))
     (action-is effective letters ∙ sym (append-nil action))
     ∙ texts-more cs (clause (Named n ns) (with_flag effective letters))
 
@@ -72,7 +72,7 @@ or-some : (bytes : List ℕ) → 0 < length bytes → or_none bytes ≡ bytes
 or-some [] some = absurd (omega arith)
 or-some (byte ∷ bytes) some = refl
 
-pub none-is : (cs : List Clause) → or_none (texts cs) ≡ text_of (some_clauses cs)
+pub none-is : (cs : List Clause) → or_none (texts cs) ≡ clauses_text (some_clauses cs)
 none-is [] = refl
 none-is (c ∷ cs) = or-some (texts (c ∷ cs)) (texts-some c cs)
 
@@ -84,38 +84,38 @@ pub three-more : (a : Attribute) (first second third : List ℕ)
     → third ≡ texts (clauses a)
 three-more a first second third one two three =
     let e = a.effective in
-    let p = clauses_of (members (less a.perm a.inh)) (with_flag e (Permitted ∷ [])) in
-    let ip = clauses_of (members (meet a.perm a.inh))
+    let p = clauses_of (cap_numbers (less a.perm a.inh)) (with_flag e (Permitted ∷ [])) in
+    let ip = clauses_of (cap_numbers (meet a.perm a.inh))
     (with_flag e (Inheritable ∷ Permitted ∷ [])) in
-    let i = clauses_of (members (less a.inh a.perm)) (with_flag e (Inheritable ∷ [])) in
+    let i = clauses_of (cap_numbers (less a.inh a.perm)) (with_flag e (Inheritable ∷ [])) in
     let at_first : first ≡ texts p =
-    one ∙ clause-more [] (members (less a.perm a.inh)) e (Permitted ∷ []) in
+    one ∙ clause-more [] (cap_numbers (less a.perm a.inh)) e (Permitted ∷ []) in
     let at_second : second ≡ texts (p ++ ip) =
     two ∙ ap (λ x. with_clause x (meet a.perm a.inh) e (105 ∷ 112 ∷ [])) at_first
-    ∙ clause-more p (members (meet a.perm a.inh)) e (Inheritable ∷ Permitted ∷ []) in
+    ∙ clause-more p (cap_numbers (meet a.perm a.inh)) e (Inheritable ∷ Permitted ∷ []) in
     three ∙ ap (λ x. with_clause x (less a.inh a.perm) e (105 ∷ [])) at_second
-    ∙ clause-more (p ++ ip) (members (less a.inh a.perm)) e (Inheritable ∷ [])
+    ∙ clause-more (p ++ ip) (cap_numbers (less a.inh a.perm)) e (Inheritable ∷ [])
     ∙ ap texts (append_assoc p ip i)
 
 -- ---- the clause of a set
 
 -- without a capability it has no members
-pub no-members : (set : Caps) → set ≡ 0 → members set ≡ []
-unfolding members_below
-no-members set none = ap members none
+pub no-members : (set : Caps) → set ≡ 0 → cap_numbers set ≡ []
+unfolding cap_numbers_below
+no-members set none = ap cap_numbers none
 
-some-members : (set : Caps) → IsCaps set → (set ≡ 0 → ⊥) → members set ≡ [] → ⊥
+some-members : (set : Caps) → IsCaps set → (set ≡ 0 → ⊥) → cap_numbers set ≡ [] → ⊥
 some-members set caps some none = some (sym (members-set set caps) ∙ ap (fold with empty) none)
 
 clause-written : (before ns : List ℕ) (effective : Bool) (letters : List ℕ) → (ns ≡ [] → ⊥)
-    → (spaced before ++ joined ns) ++ action_with effective letters
+    → (spaced before ++ comma_names ns) ++ action_with effective letters
     ≡ clause_with before ns effective letters
 clause-written before [] effective letters some = absurd (some refl)
 clause-written before (n ∷ ns) effective letters some = refl
 
 pub clause-behind : (before : List ℕ) (set : Caps) (effective : Bool) (letters : List ℕ)
     → IsCaps set → (set ≡ 0 → ⊥)
-    → (spaced before ++ joined (members set)) ++ action_with effective letters
+    → (spaced before ++ comma_names (cap_numbers set)) ++ action_with effective letters
     ≡ with_clause before set effective letters
 clause-behind before set effective letters caps some =
-    clause-written before (members set) effective letters (some-members set caps some)
+    clause-written before (cap_numbers set) effective letters (some-members set caps some)

@@ -6,16 +6,16 @@ use Rattle.cred_caps.specs.Caps.{Caps, IsCap, full, with}
 use Rattle.cred_captext.specs.declared.action.Operator.{Operator}
 use Rattle.cred_captext.specs.declared.action.Letter.{Letter}
 use Rattle.cred_captext.specs.declared.sets.Sets.{Sets}
-use Rattle.cred_captext.specs.declared.reader.Place.{Place}
-use Rattle.cred_captext.specs.declared.reader.Place.TheVariants.{Start, A, Al, All, Name, Sign}
-use Rattle.cred_captext.specs.declared.reader.Place.TheVariants.{Letters}
-use Rattle.cred_captext.specs.declared.reader.Reader.{Reader}
-use Rattle.cred_captext.specs.Names.{name_of}
+use Rattle.cred_captext.specs.declared.bytes.Place.{Place}
+use Rattle.cred_captext.specs.declared.bytes.Place.TheVariants.{Start, A, Al, All, Name, Sign}
+use Rattle.cred_captext.specs.declared.bytes.Place.TheVariants.{Letters}
+use Rattle.cred_captext.specs.declared.bytes.Reader.{Reader}
+use Rattle.cred_captext.specs.Names.{small_name}
 use Rattle.cred_captext.specs.Grammar.{Action, Clause}
 use Rattle.cred_captext.specs.Grammar.{AreActions, AreClauses}
 use Rattle.cred_captext.specs.Grammar.{letter_byte}
 use Rattle.cred_captext.specs.Grammar.{action_text, clause_text}
-use Rattle.cred_captext.specs.Meaning.{flagged, acted, applied}
+use Rattle.cred_captext.specs.Meaning.{after_letter, after_action, after_clause}
 use Rattle.cred_captext.proofs.Forward.{ends}
 
 -- behind a list: actions and clauses
@@ -26,7 +26,7 @@ pub record Acts (s : Sets) (list : Caps) (bytes : List ℕ) (x : Sets) : Type 0 
   pub actions : AreActions (first ∷ others)
   pub ends_so : AreClauses clauses
   pub text : bytes ≡ action_text first ++ (flat_map action_text others ++ ends clauses)
-  pub value : x ≡ fold applied (fold (acted list) s (first ∷ others)) clauses
+  pub value : x ≡ fold after_clause (fold (after_action list) s (first ∷ others)) clauses
 
 -- behind an operator and letters: more letters, actions and clauses
 pub record More (s : Sets) (list : Caps) (op : Operator) (bytes : List ℕ) (x : Sets) : Type 0 where
@@ -36,7 +36,7 @@ pub record More (s : Sets) (list : Caps) (op : Operator) (bytes : List ℕ) (x :
   pub actions : AreActions others
   pub ends_so : AreClauses clauses
   pub text : bytes ≡ map letter_byte letters ++ (flat_map action_text others ++ ends clauses)
-  pub value : x ≡ fold applied (fold (acted list) (fold (flagged list op) s letters) others) clauses
+  pub value : x ≡ fold after_clause (fold (after_action list) (fold (after_letter list op) s letters) others) clauses
 
 -- behind an operator that needs a letter
 pub record Signed (s : Sets) (list : Caps) (op : Operator) (bytes : List ℕ) (x : Sets)
@@ -44,7 +44,7 @@ pub record Signed (s : Sets) (list : Caps) (op : Operator) (bytes : List ℕ) (x
   pub first : Letter
   pub rest : List ℕ
   pub text : bytes ≡ letter_byte first ∷ rest
-  pub more : More (flagged list op s first) list op rest x
+  pub more : More (after_letter list op s first) list op rest x
 
 -- within a name: its rest, more names, and what may stand behind a list
 pub record Names (s : Sets) (list : Caps) (w bytes : List ℕ) (x : Sets) : Type 0 where
@@ -53,8 +53,8 @@ pub record Names (s : Sets) (list : Caps) (w bytes : List ℕ) (x : Sets) : Type
   pub others : List ℕ
   pub rest : List ℕ
   pub caps : AllByRecursion IsCap (number ∷ others)
-  pub name : w ++ v ≡ name_of number
-  pub text : bytes ≡ v ++ (flat_map (λ m. 44 ∷ name_of m) others ++ rest)
+  pub name : w ++ v ≡ small_name number
+  pub text : bytes ≡ v ++ (flat_map (λ m. 44 ∷ small_name m) others ++ rest)
   pub acts : Acts s (fold with list (number ∷ others)) rest x
 
 -- behind letters of the word `all`, further ones, and what may stand behind a list
@@ -69,7 +69,7 @@ pub record Starts (s : Sets) (bytes : List ℕ) (x : Sets) : Type 0 where
   pub others : List Clause
   pub clauses : AreClauses (first ∷ others)
   pub text : bytes ≡ clause_text first ++ ends others
-  pub value : x ≡ fold applied s (first ∷ others)
+  pub value : x ≡ fold after_clause s (first ∷ others)
 
 abbrev pub TailAt : Sets → Caps → Place → List ℕ → Sets → Type 0
 TailAt s list Start bytes x = Starts s bytes x

@@ -8,11 +8,11 @@ use Rattle.cred_rules.specs.Attribute.{Attribute}
 use Rattle.cred_captext.specs.declared.action.Letter.{Letter}
 use Rattle.cred_captext.specs.declared.action.Letter.TheVariants.{Inheritable, Permitted}
 use Rattle.cred_captext.specs.declared.sets.Sets.{Sets}
-use Rattle.cred_captext.specs.Grammar.{Clause, IsClause, AreClauses, text_of}
-use Rattle.cred_captext.specs.Meaning.{none, applied, sets_of, is_whole, attribute_of}
-use Rattle.cred_captext.specs.Printed.{members, with_flag, clauses_of, clauses, some_clauses}
+use Rattle.cred_captext.specs.Grammar.{Clause, IsClause, AreClauses, clauses_text}
+use Rattle.cred_captext.specs.Meaning.{none, after_clause, sets_of_clauses, is_whole, attribute_of_sets}
+use Rattle.cred_captext.specs.Printed.{cap_numbers, with_flag, clauses_of, clauses, some_clauses}
 use Rattle.cred_captext.specs.Printed.{printed, HasText}
-use Rattle.cred_captext.specs.Reading.{Says}
+use Rattle.cred_captext.specs.Reading.{TextSays}
 use Rattle.cred_captext.proofs.Members.{members-are, all-append}
 use Rattle.cred_captext.proofs.ThreeSets.{reset, three, less-caps, meet-caps, said-with}
 use Rattle.cred_captext.proofs.ThreeSets.{said-without}
@@ -29,8 +29,8 @@ are-some : (cs : List Clause) → AreClauses cs
 are-some [] are = (record { listed = tt; begins = refl; actions = (tt, tt) }, tt)
 are-some (c ∷ cs) are = are
 
-are-members : (set : Caps) (letters : List Letter) → AreClauses (clauses_of (members set) letters)
-are-members set letters = are-of (members set) letters (members-are 41 set (omega arith))
+are-members : (set : Caps) (letters : List Letter) → AreClauses (clauses_of (cap_numbers set) letters)
+are-members set letters = are-of (cap_numbers set) letters (members-are 41 set (omega arith))
 
 are-printed : (a : Attribute) → AreClauses ((printed a).first ∷ (printed a).others)
 are-printed a =
@@ -43,7 +43,7 @@ are-printed a =
 
 -- ---- what they say
 
-some-say : (cs : List Clause) → sets_of (some_clauses cs) ≡ fold applied none cs
+some-say : (cs : List Clause) → sets_of_clauses (some_clauses cs) ≡ fold after_clause none cs
 some-say [] = refl
 some-say (c ∷ cs) = refl
 
@@ -61,7 +61,7 @@ flag-said true p i p_caps i_caps = said-with p i p_caps i_caps
 flag-said false p i p_caps i_caps = said-without p i p_caps i_caps
 
 printed-say : (a : Attribute) → IsCaps a.perm → IsCaps a.inh
-    → sets_of (printed a) ≡ written a.effective a.perm a.inh
+    → sets_of_clauses (printed a) ≡ written a.effective a.perm a.inh
 printed-say a p_caps i_caps =
     some-say (clauses a)
     ∙ three (less a.perm a.inh) (meet a.perm a.inh) (less a.inh a.perm) _ _ _
@@ -87,8 +87,8 @@ is-read true p i some = record {
 }
 is-read false p i some = record { whole = refl; effective = refl; perm = refl; inh = refl }
 
-pub printed-says : (text : List ℕ) (a : Attribute) → text ≡ text_of (printed a) → IsCaps a.perm
-    → IsCaps a.inh → a.root ≡ 0 → HasText a → Says text a
+pub printed-says : (text : List ℕ) (a : Attribute) → text ≡ clauses_text (printed a) → IsCaps a.perm
+    → IsCaps a.inh → a.root ≡ 0 → HasText a → TextSays text a
 printed-says text a is p_caps i_caps root has =
     let sets = printed-say a p_caps i_caps in
     let read = is-read a.effective a.perm a.inh has.1 in
@@ -102,5 +102,5 @@ printed-says text a is p_caps i_caps root has =
         inh = read.inh k;
         effective = read.effective k;
         root = root k;
-      }) ∙ ap attribute_of (sym sets);
+      }) ∙ ap attribute_of_sets (sym sets);
     }

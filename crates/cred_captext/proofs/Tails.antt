@@ -12,20 +12,20 @@ use Rattle.cred_captext.specs.declared.action.Operator.TheVariants.{Reset, Raise
 use Rattle.cred_captext.specs.declared.action.Letter.{Letter}
 use Rattle.cred_captext.specs.declared.action.Letter.TheVariants as letter
 use Rattle.cred_captext.specs.declared.sets.Sets.{Sets}
-use Rattle.cred_captext.specs.declared.reader.Place.{Place}
-use Rattle.cred_captext.specs.declared.reader.Place.TheVariants.{Start, A, Al, All, Name, Sign}
-use Rattle.cred_captext.specs.declared.reader.Place.TheVariants.{Letters}
-use Rattle.cred_captext.specs.declared.reader.Reader.{Reader}
-use Rattle.cred_captext.specs.Names.{name_of, cap_named, begins_name}
+use Rattle.cred_captext.specs.declared.bytes.Place.{Place}
+use Rattle.cred_captext.specs.declared.bytes.Place.TheVariants.{Start, A, Al, All, Name, Sign}
+use Rattle.cred_captext.specs.declared.bytes.Place.TheVariants.{Letters}
+use Rattle.cred_captext.specs.declared.bytes.Reader.{Reader}
+use Rattle.cred_captext.specs.Names.{small_name, cap_of_small_name, begins_name}
 use Rattle.cred_captext.specs.Grammar.{Listed, Everything, Unsaid, Named, Clauses}
 use Rattle.cred_captext.specs.Grammar.{IsListed}
-use Rattle.cred_captext.specs.Grammar.{MayBegin, operator_byte, letter_byte, listed_text}
+use Rattle.cred_captext.specs.Grammar.{MayBeginClause, operator_byte, letter_byte, listed_text}
 use Rattle.cred_captext.specs.Grammar.{action_text}
-use Rattle.cred_captext.specs.Meaning.{begun, flagged, caps_in, sets_of}
-use Rattle.cred_captext.specs.Machine.{reader, behind, operated, operator_of, letter_of, lettered}
-use Rattle.cred_captext.specs.Machine.{separated, longer, named, word, step_at}
-use Rattle.cred_captext.specs.Machine.{step, run, start, sets_at, ended, said}
-use Rattle.cred_captext.specs.Reading.{Spells}
+use Rattle.cred_captext.specs.Meaning.{after_operator, after_letter, caps_in, sets_of_clauses}
+use Rattle.cred_captext.specs.Machine.{reader, place_after, operated, operator_of, letter_of, lettered}
+use Rattle.cred_captext.specs.Machine.{separated, longer_name, within_name, word, step_at}
+use Rattle.cred_captext.specs.Machine.{after_byte, run, first_reader, sets_at, sets_at_end, sets_said}
+use Rattle.cred_captext.specs.Reading.{SpellsClauses}
 use Rattle.cred_captext.proofs.Choices.{chosen, either, mapped, bound}
 use Rattle.cred_captext.proofs.NameLemmas.{named-is}
 use Rattle.cred_captext.proofs.Forward.{ends, clause-parts}
@@ -65,7 +65,7 @@ letter-is b l is =
 -- ---- an operator behind a list
 
 acts-behind : (op : Operator) (s : Sets) (list : Caps) (b : ℕ) (bytes : List ℕ) (x : Sets)
-    → b ≡ operator_byte op → Tail (reader (begun list op s) list (behind op)) bytes x
+    → b ≡ operator_byte op → Tail (reader (after_operator list op s) list (place_after op)) bytes x
     → Acts s list (b ∷ bytes) x
 acts-behind Reset s list b bytes x is tail = record {
   first = record { operator = Reset; letters = tail.letters };
@@ -98,7 +98,7 @@ acts-behind Lower s list b bytes x is tail = record {
 acts : (s : Sets) (list : Caps) (b : ℕ) (bytes : List ℕ) (x : Sets) (r : Reader)
     → operated s list b ≡ Some r → Tail r bytes x → Acts s list (b ∷ bytes) x
 acts s list b bytes x r is tail =
-    let from = mapped (λ op. reader (begun list op s) list (behind op)) (operator_of b) r is in
+    let from = mapped (λ op. reader (after_operator list op s) list (place_after op)) (operator_of b) r is in
     acts-behind from.value s list b bytes x (operator-is b from.value from.was)
     (subst (λ t. Tail t bytes x) (sym from.is) tail)
 
@@ -108,7 +108,7 @@ more-letters : (s : Sets) (list : Caps) (op : Operator) (b : ℕ) (bytes : List 
     (r : Reader)
     → lettered s list op b ≡ Some r → Tail r bytes x → Signed s list op (b ∷ bytes) x
 more-letters s list op b bytes x r is tail =
-    let from = mapped (λ l. reader (flagged list op s l) list (Letters op)) (letter_of b) r is in
+    let from = mapped (λ l. reader (after_letter list op s l) list (Letters op)) (letter_of b) r is in
     record {
       first = from.value;
       rest = bytes;
@@ -176,7 +176,7 @@ at-letters s list op b bytes x r is tail =
 
 -- a name that goes on
 going-on : (s : Sets) (list : Caps) (w : List ℕ) (b : ℕ) (bytes : List ℕ) (x : Sets) (r : Reader)
-    → longer s list (w ++ b ∷ []) ≡ Some r → Tail r bytes x → Names s list w (b ∷ bytes) x
+    → longer_name s list (w ++ b ∷ []) ≡ Some r → Tail r bytes x → Names s list w (b ∷ bytes) x
 going-on s list w b bytes x r is tail =
     let same = (cond_some (begins_name (w ++ b ∷ []))
     (reader s list (Name (w ++ b ∷ []))) r is).1 in
@@ -194,17 +194,17 @@ going-on s list w b bytes x r is tail =
 
 -- a name that ends
 ending : (s : Sets) (list : Caps) (w : List ℕ) (n b : ℕ) (bytes : List ℕ) (x : Sets) (r : Reader)
-    → cap_named w ≡ Some n → separated s (with list n) b ≡ Some r → Tail r bytes x
+    → cap_of_small_name w ≡ Some n → separated s (with list n) b ≡ Some r → Tail r bytes x
     → Names s list w (b ∷ bytes) x
 ending s list w n b bytes x r name is tail =
     let known = named-is w n name in
-    let whole : w ++ [] ≡ name_of n = append-nil w ∙ sym known.name in
+    let whole : w ++ [] ≡ small_name n = append-nil w ∙ sym known.name in
     elim (chosen (b == 44) _ _ _ is) [
       | inl hit ↦
           let same : reader s (with list n) (Name []) ≡ r = cc in
           let next : Names s (with list n) [] bytes x =
           subst (λ t. Tail t bytes x) (sym same) tail in
-          let flat = flat_map (λ m. 44 ∷ name_of m) next.others in
+          let flat = flat_map (λ m. 44 ∷ small_name m) next.others in
           record {
             number = n;
             v = [];
@@ -214,7 +214,7 @@ ending s list w n b bytes x r name is tail =
             name = whole;
             text = (λ i. eqb-true b 44 hit.0 i ∷ next.text i)
                 ∙ ap (λ y. 44 ∷ (y ++ (flat ++ next.rest))) next.name
-                ∙ ap (λ y. 44 ∷ y) (sym (append_assoc (name_of next.number) flat next.rest));
+                ∙ ap (λ y. 44 ∷ y) (sym (append_assoc (small_name next.number) flat next.rest));
             acts = next.acts;
           }
       | inr miss ↦ record {
@@ -232,8 +232,8 @@ ending s list w n b bytes x r name is tail =
 at-name : (s : Sets) (list : Caps) (w : List ℕ) (b : ℕ) (bytes : List ℕ) (x : Sets) (r : Reader)
     → step_at s list (Name w) b ≡ Some r → Tail r bytes x → Names s list w (b ∷ bytes) x
 at-name s list w b bytes x r is tail =
-    elim (cap_named w) as
-    (λ o. cap_named w ≡ o → named s list w b o ≡ Some r → Names s list w (b ∷ bytes) x) [
+    elim (cap_of_small_name w) as
+    (λ o. cap_of_small_name w ≡ o → within_name s list w b o ≡ Some r → Names s list w (b ∷ bytes) x) [
       | None ↦ λ _ go. going-on s list w b bytes x r go tail
       | Some n ↦ λ name go. ending s list w n b bytes x r name go tail
     ] refl is
@@ -242,7 +242,7 @@ at-name s list w b bytes x r is tail =
 
 -- the text of a clause is its list's and its actions'
 starts : (l : Listed) (s : Sets) (bytes rest : List ℕ) (x : Sets) (a : Acts s (caps_in l) rest x)
-    → IsListed l → MayBegin l a.first.operator → bytes ≡ listed_text l ++ rest → Starts s bytes x
+    → IsListed l → MayBeginClause l a.first.operator → bytes ≡ listed_text l ++ rest → Starts s bytes x
 starts l s bytes rest x a is may text = record {
   first = record { listed = l; first = a.first; others = a.others };
   others = a.clauses;
@@ -265,11 +265,11 @@ head-is a b xs ys same = cc
 starts-name : (s : Sets) (b : ℕ) (bytes : List ℕ) (x : Sets) → Names s empty [] (b ∷ bytes) x
     → Starts s (b ∷ bytes) x
 starts-name s b bytes x is =
-    let flat = flat_map (λ m. 44 ∷ name_of m) is.others in
+    let flat = flat_map (λ m. 44 ∷ small_name m) is.others in
     starts (Named is.number is.others) s (b ∷ bytes) is.rest x is.acts is.caps tt
     (is.text
     ∙ ap (λ y. y ++ (flat ++ is.rest)) is.name
-    ∙ sym (append_assoc (name_of is.number) flat is.rest))
+    ∙ sym (append_assoc (small_name is.number) flat is.rest))
 
 at-start : (s : Sets) (list : Caps) (b : ℕ) (bytes : List ℕ) (x : Sets) (r : Reader)
     → step_at s list Start b ≡ Some r → Tail r bytes x → Starts s (b ∷ bytes) x
@@ -340,24 +340,24 @@ tail-end s list (Letters op) x is = record {
   value = let same : s ≡ x = cc in sym same;
 }
 
-tail : (bytes : List ℕ) (r : Reader) (x : Sets) → said r bytes ≡ Some x → Tail r bytes x
+tail : (bytes : List ℕ) (r : Reader) (x : Sets) → sets_said r bytes ≡ Some x → Tail r bytes x
 tail [] r x is = tail-end r.sets r.list r.place x is
 tail (b ∷ bytes) r x is =
-    let last = bound ended (run r (b ∷ bytes)) x is in
-    let next = bound (λ t. run t bytes) (step r b) last.value last.was in
+    let last = bound sets_at_end (run r (b ∷ bytes)) x is in
+    let next = bound (λ t. run t bytes) (after_byte r b) last.value last.was in
     tail-step r.sets r.list r.place b bytes x next.value next.was
-    (tail bytes next.value x (ap (option_and_then ended) next.is ∙ last.is))
+    (tail bytes next.value x (ap (option_and_then sets_at_end) next.is ∙ last.is))
 
 -- what is read to its end is a text
 pub record IsText (bytes : List ℕ) (x : Sets) : Type 0 where
   pub clauses : Clauses
-  pub spells : Spells bytes clauses
-  pub value : x ≡ sets_of clauses
+  pub spells : SpellsClauses bytes clauses
+  pub value : x ≡ sets_of_clauses clauses
 
-pub text-read : (bytes : List ℕ) (x : Sets) → said start bytes ≡ Some x → IsText bytes x
+pub text-read : (bytes : List ℕ) (x : Sets) → sets_said first_reader bytes ≡ Some x → IsText bytes x
 unfolding ends
 text-read bytes x is =
-    let found = tail bytes start x is in
+    let found = tail bytes first_reader x is in
     record {
       clauses = record { first = found.first; others = found.others };
       spells = record { clauses = found.clauses; text = found.text };

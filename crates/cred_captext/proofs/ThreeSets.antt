@@ -14,8 +14,8 @@ use Rattle.cred_captext.specs.declared.action.Operator.TheVariants.{Reset}
 use Rattle.cred_captext.specs.declared.action.Letter.{Letter}
 use Rattle.cred_captext.specs.declared.action.Letter.TheVariants.{Effective, Inheritable, Permitted}
 use Rattle.cred_captext.specs.declared.sets.Sets.{Sets}
-use Rattle.cred_captext.specs.Meaning.{none, begun, flagged, applied}
-use Rattle.cred_captext.specs.Printed.{members, clauses_of}
+use Rattle.cred_captext.specs.Meaning.{none, after_operator, after_letter, after_clause}
+use Rattle.cred_captext.specs.Printed.{cap_numbers, clauses_of}
 use Rattle.cred_captext.proofs.Members.{members-set, fold-append}
 
 -- ---- sets of capabilities
@@ -27,12 +27,12 @@ record AreSets (s : Sets) : Type 0 where
 
 -- the sets behind a clause `LIST=LETTERS`
 abbrev pub reset : Caps → List Letter → Sets → Sets
-reset set letters s = fold (flagged set Reset) (begun set Reset s) letters
+reset set letters s = fold (after_letter set Reset) (after_operator set Reset s) letters
 
 pub less-caps : (a b : Caps) → IsCaps a → IsCaps (less a b)
 less-caps a b caps = IsCaps-less a (2 ^ 64 - 1 - b) caps
 
-begun-caps : (set : Caps) (s : Sets) → AreSets s → AreSets (begun set Reset s)
+begun-caps : (set : Caps) (s : Sets) → AreSets s → AreSets (after_operator set Reset s)
 begun-caps set s are = record {
   effective = less-caps s.effective set are.effective;
   inheritable = less-caps s.inheritable set are.inheritable;
@@ -40,7 +40,7 @@ begun-caps set s are = record {
 }
 
 flagged-caps : (set : Caps) (s : Sets) (l : Letter) → IsCaps set → AreSets s
-    → AreSets (flagged set Reset s l)
+    → AreSets (after_letter set Reset s l)
 flagged-caps set s Effective caps are = record {
   effective = IsCaps-union s.effective set are.effective caps;
   inheritable = are.inheritable;
@@ -58,15 +58,15 @@ flagged-caps set s Permitted caps are = record {
 }
 
 letters-caps : (letters : List Letter) (set : Caps) (s : Sets) → IsCaps set → AreSets s
-    → AreSets (fold (flagged set Reset) s letters)
+    → AreSets (fold (after_letter set Reset) s letters)
 letters-caps [] set s caps are = are
 letters-caps (l ∷ letters) set s caps are =
-    letters-caps letters set (flagged set Reset s l) caps (flagged-caps set s l caps are)
+    letters-caps letters set (after_letter set Reset s l) caps (flagged-caps set s l caps are)
 
 reset-caps : (set : Caps) (letters : List Letter) (s : Sets) → IsCaps set → AreSets s
     → AreSets (reset set letters s)
 reset-caps set letters s caps are =
-    letters-caps letters set (begun set Reset s) caps (begun-caps set s are)
+    letters-caps letters set (after_operator set Reset s) caps (begun-caps set s are)
 
 -- ---- no capability changes nothing
 
@@ -83,17 +83,17 @@ union-none : (a : Caps) → union a empty ≡ a
 union-none a = same_caps (union a empty) a (λ n.
     has-union a empty n ∙ ap (λ t. has a n || t) (has-empty n) ∙ or-false (has a n))
 
-flagged-none : (s : Sets) (l : Letter) → flagged empty Reset s l ≡ s
+flagged-none : (s : Sets) (l : Letter) → after_letter empty Reset s l ≡ s
 flagged-none s Effective = λ i. record s { effective = union-none s.effective i }
 flagged-none s Inheritable = λ i. record s { inheritable = union-none s.inheritable i }
 flagged-none s Permitted = λ i. record s { permitted = union-none s.permitted i }
 
-letters-none : (letters : List Letter) (s : Sets) → fold (flagged empty Reset) s letters ≡ s
+letters-none : (letters : List Letter) (s : Sets) → fold (after_letter empty Reset) s letters ≡ s
 letters-none [] s = refl
 letters-none (l ∷ letters) s =
-    ap (λ t. fold (flagged empty Reset) t letters) (flagged-none s l) ∙ letters-none letters s
+    ap (λ t. fold (after_letter empty Reset) t letters) (flagged-none s l) ∙ letters-none letters s
 
-begun-none : (s : Sets) → AreSets s → begun empty Reset s ≡ s
+begun-none : (s : Sets) → AreSets s → after_operator empty Reset s ≡ s
 begun-none s are = λ i. record {
   effective = less-none s.effective are.effective i;
   inheritable = less-none s.inheritable are.inheritable i;
@@ -101,12 +101,12 @@ begun-none s are = λ i. record {
 }
 
 reset-none : (letters : List Letter) (s : Sets) → AreSets s → reset empty letters s ≡ s
-reset-none letters s are = letters-none letters (begun empty Reset s) ∙ begun-none s are
+reset-none letters s are = letters-none letters (after_operator empty Reset s) ∙ begun-none s are
 
 -- ---- the clause of a set
 
 clause-of : (ns : List ℕ) (set : Caps) (letters : List Letter) (s : Sets) → fold with empty ns ≡ set
-    → AreSets s → fold applied s (clauses_of ns letters) ≡ reset set letters s
+    → AreSets s → fold after_clause s (clauses_of ns letters) ≡ reset set letters s
 clause-of [] set letters s is are =
     sym (ap (λ x. reset x letters s) (sym is) ∙ reset-none letters s are)
 clause-of (n ∷ ns) set letters s is are = ap (λ x. reset x letters s) is
@@ -116,20 +116,20 @@ none-sets = record { effective = omega arith; inheritable = omega arith; permitt
 
 -- three clauses, of three sets
 pub three : (a b c : Caps) (j k l : List Letter) → IsCaps a → IsCaps b → IsCaps c
-    → fold applied none
-    (clauses_of (members a) j ++ (clauses_of (members b) k ++ clauses_of (members c) l))
+    → fold after_clause none
+    (clauses_of (cap_numbers a) j ++ (clauses_of (cap_numbers b) k ++ clauses_of (cap_numbers c) l))
     ≡ reset c l (reset b k (reset a j none))
 three a b c j k l a_caps b_caps c_caps =
     let first = reset-caps a j none a_caps none-sets in
     let second = reset-caps b k (reset a j none) b_caps first in
-    fold-append applied none (clauses_of (members a) j)
-    (clauses_of (members b) k ++ clauses_of (members c) l)
-    ∙ ap (λ s. fold applied s (clauses_of (members b) k ++ clauses_of (members c) l))
-    (clause-of (members a) a j none (members-set a a_caps) none-sets)
-    ∙ fold-append applied (reset a j none) (clauses_of (members b) k) (clauses_of (members c) l)
-    ∙ ap (λ s. fold applied s (clauses_of (members c) l))
-    (clause-of (members b) b k (reset a j none) (members-set b b_caps) first)
-    ∙ clause-of (members c) c l (reset b k (reset a j none)) (members-set c c_caps) second
+    fold-append after_clause none (clauses_of (cap_numbers a) j)
+    (clauses_of (cap_numbers b) k ++ clauses_of (cap_numbers c) l)
+    ∙ ap (λ s. fold after_clause s (clauses_of (cap_numbers b) k ++ clauses_of (cap_numbers c) l))
+    (clause-of (cap_numbers a) a j none (members-set a a_caps) none-sets)
+    ∙ fold-append after_clause (reset a j none) (clauses_of (cap_numbers b) k) (clauses_of (cap_numbers c) l)
+    ∙ ap (λ s. fold after_clause s (clauses_of (cap_numbers c) l))
+    (clause-of (cap_numbers b) b k (reset a j none) (members-set b b_caps) first)
+    ∙ clause-of (cap_numbers c) c l (reset b k (reset a j none)) (members-set c c_caps) second
 
 -- ---- what is in them
 

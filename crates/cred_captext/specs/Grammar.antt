@@ -7,7 +7,7 @@ use Rattle.cred_captext.specs.declared.action.Operator.{Operator}
 use Rattle.cred_captext.specs.declared.action.Operator.TheVariants.{Reset, Raise, Lower}
 use Rattle.cred_captext.specs.declared.action.Letter.{Letter}
 use Rattle.cred_captext.specs.declared.action.Letter.TheVariants as letter
-use Rattle.cred_captext.specs.Names.{name_of}
+use Rattle.cred_captext.specs.Names.{small_name}
 
 -- ---- what a text consists of
 
@@ -55,14 +55,14 @@ AreActions actions = AllByRecursion (λ a. IsAction a.operator a.letters) action
 -- "In the case that the leading operator is '=', and no list of capabilities is provided, the
 -- action-list is assumed to refer to 'all' capabilities." The two others "require an explicit
 -- preceding capability list".
-abbrev pub MayBegin : Listed → Operator → Type 0
-MayBegin Unsaid operator = operator ≡ Reset
-MayBegin Everything operator = ⊤
-MayBegin (Named n ns) operator = ⊤
+abbrev pub MayBeginClause : Listed → Operator → Type 0
+MayBeginClause Unsaid operator = operator ≡ Reset
+MayBeginClause Everything operator = ⊤
+MayBeginClause (Named n ns) operator = ⊤
 
 pub record IsClause (c : Clause) : Type 0 where
   pub listed : IsListed c.listed
-  pub begins : MayBegin c.listed c.first.operator
+  pub begins : MayBeginClause c.listed c.first.operator
   pub actions : AreActions (c.first ∷ c.others)
 
 abbrev pub AreClauses : List Clause → Type 0
@@ -84,7 +84,7 @@ letter_byte letter.Permitted = 112
 abbrev pub listed_text : Listed → List ℕ
 listed_text Everything = codes "all"
 listed_text Unsaid = []
-listed_text (Named n ns) = name_of n ++ flat_map (λ m. codes "," ++ name_of m) ns
+listed_text (Named n ns) = small_name n ++ flat_map (λ m. codes "," ++ small_name m) ns
 
 abbrev pub action_text : Action → List ℕ
 action_text a = operator_byte a.operator ∷ map letter_byte a.letters
@@ -93,5 +93,5 @@ abbrev pub clause_text : Clause → List ℕ
 clause_text c = listed_text c.listed ++ flat_map action_text (c.first ∷ c.others)
 
 -- one space between two clauses
-abbrev pub text_of : Clauses → List ℕ
-text_of t = clause_text t.first ++ flat_map (λ c. codes " " ++ clause_text c) t.others
+abbrev pub clauses_text : Clauses → List ℕ
+clauses_text t = clause_text t.first ++ flat_map (λ c. codes " " ++ clause_text c) t.others

@@ -1,8 +1,8 @@
 -- A law of texts.
 use Rattle.std.specs.Prelude.{◌≡◌, ℕ, List}
 use Rattle.cred_rules.specs.Attribute.{Attribute}
-use Rattle.cred_captext.specs.Reading.{Says}
+use Rattle.cred_captext.specs.Reading.{TextSays}
 
 -- no text says two things of a file
 abbrev pub NoTextSaysTwo : Type 0
-NoTextSaysTwo = (bytes : List ℕ) (a b : Attribute) → Says bytes a → Says bytes b → a ≡ b
+NoTextSaysTwo = (bytes : List ℕ) (a b : Attribute) → TextSays bytes a → TextSays bytes b → a ≡ b

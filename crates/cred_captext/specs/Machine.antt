@@ -9,12 +9,12 @@ use Rattle.cred_captext.specs.declared.action.Operator.TheVariants.{Reset, Raise
 use Rattle.cred_captext.specs.declared.action.Letter.{Letter}
 use Rattle.cred_captext.specs.declared.action.Letter.TheVariants as letter
 use Rattle.cred_captext.specs.declared.sets.Sets.{Sets}
-use Rattle.cred_captext.specs.declared.reader.Place.{Place}
-use Rattle.cred_captext.specs.declared.reader.Place.TheVariants.{Start, A, Al, All, Name}
-use Rattle.cred_captext.specs.declared.reader.Place.TheVariants.{Sign, Letters}
-use Rattle.cred_captext.specs.declared.reader.Reader.{Reader}
-use Rattle.cred_captext.specs.Names.{cap_named, begins_name}
-use Rattle.cred_captext.specs.Meaning.{none, begun, flagged}
+use Rattle.cred_captext.specs.declared.bytes.Place.{Place}
+use Rattle.cred_captext.specs.declared.bytes.Place.TheVariants.{Start, A, Al, All, Name}
+use Rattle.cred_captext.specs.declared.bytes.Place.TheVariants.{Sign, Letters}
+use Rattle.cred_captext.specs.declared.bytes.Reader.{Reader}
+use Rattle.cred_captext.specs.Names.{cap_of_small_name, begins_name}
+use Rattle.cred_captext.specs.Meaning.{none, after_operator, after_letter}
 
 -- ---- one byte
 
@@ -39,21 +39,21 @@ abbrev pub reader : Sets → Caps → Place → Reader
 reader s list place = record { sets = s; list = list; place = place }
 
 -- behind an operator: `=` needs no letter
-abbrev pub behind : Operator → Place
-behind Reset = Letters Reset
-behind Raise = Sign Raise
-behind Lower = Sign Lower
+abbrev pub place_after : Operator → Place
+place_after Reset = Letters Reset
+place_after Raise = Sign Raise
+place_after Lower = Sign Lower
 
 -- an operator, for this list
 abbrev pub operated : Sets → Caps → ℕ → Option Reader
 operated s list byte =
-    option_map (λ operator. reader (begun list operator s) list (behind operator))
+    option_map (λ operator. reader (after_operator list operator s) list (place_after operator))
     (operator_of byte)
 
 -- a letter, behind this operator
 abbrev pub lettered : Sets → Caps → Operator → ℕ → Option Reader
 lettered s list operator byte =
-    option_map (λ letter. reader (flagged list operator s letter) list (Letters operator))
+    option_map (λ letter. reader (after_letter list operator s letter) list (Letters operator))
     (letter_of byte)
 
 -- a byte more of the word `all`
@@ -66,12 +66,12 @@ separated s list byte =
     if byte == 44 then Some (reader s list (Name [])) else operated s list byte
 
 -- one more byte of a name
-abbrev pub longer : Sets → Caps → List ℕ → Option Reader
-longer s list word = if begins_name word then Some (reader s list (Name word)) else None
+abbrev pub longer_name : Sets → Caps → List ℕ → Option Reader
+longer_name s list word = if begins_name word then Some (reader s list (Name word)) else None
 
-abbrev pub named : Sets → Caps → List ℕ → ℕ → Option ℕ → Option Reader
-named s list word byte (Some n) = separated s (with list n) byte
-named s list word byte None = longer s list (word ++ byte ∷ [])
+abbrev pub within_name : Sets → Caps → List ℕ → ℕ → Option ℕ → Option Reader
+within_name s list word byte (Some n) = separated s (with list n) byte
+within_name s list word byte None = longer_name s list (word ++ byte ∷ [])
 
 abbrev pub letter_or_operator : Sets → Caps → Operator → ℕ → Option Reader
 letter_or_operator s list operator byte =
@@ -81,28 +81,28 @@ abbrev pub step_at : Sets → Caps → Place → ℕ → Option Reader
 step_at s list Start byte =
     if byte == 97 then Some (reader s full A)
     else if byte == 61 then operated s full byte
-    else longer s empty (byte ∷ [])
+    else longer_name s empty (byte ∷ [])
 step_at s list A byte = word s Al byte
 step_at s list Al byte = word s All byte
 step_at s list All byte = operated s full byte
-step_at s list (Name word) byte = named s list word byte (cap_named word)
+step_at s list (Name word) byte = within_name s list word byte (cap_of_small_name word)
 step_at s list (Sign operator) byte = lettered s list operator byte
 step_at s list (Letters operator) byte =
     if byte == 32 then Some (reader s empty Start)
     else letter_or_operator s list operator byte
 
 -- behind one more byte
-abbrev pub step : Reader → ℕ → Option Reader
-step r byte = step_at r.sets r.list r.place byte
+abbrev pub after_byte : Reader → ℕ → Option Reader
+after_byte r byte = step_at r.sets r.list r.place byte
 
 -- behind more bytes
 abbrev pub run : Reader → List ℕ → Option Reader
 run r [] = Some r
-run r (byte ∷ bytes) = option_and_then (λ next. run next bytes) (step r byte)
+run r (byte ∷ bytes) = option_and_then (λ next. run next bytes) (after_byte r byte)
 
 -- before the first byte
-abbrev pub start : Reader
-start = reader none empty Start
+abbrev pub first_reader : Reader
+first_reader = reader none empty Start
 
 -- the sets, where a text may end
 abbrev pub sets_at : Sets → Place → Option Sets
@@ -114,9 +114,9 @@ sets_at s All = None
 sets_at s (Name word) = None
 sets_at s (Sign operator) = None
 
-abbrev pub ended : Reader → Option Sets
-ended r = sets_at r.sets r.place
+abbrev pub sets_at_end : Reader → Option Sets
+sets_at_end r = sets_at r.sets r.place
 
 -- the sets that a text says
-abbrev pub said : Reader → List ℕ → Option Sets
-said r bytes = option_and_then ended (run r bytes)
+abbrev pub sets_said : Reader → List ℕ → Option Sets
+sets_said r bytes = option_and_then sets_at_end (run r bytes)

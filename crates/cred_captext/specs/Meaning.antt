@@ -27,14 +27,14 @@ caps_in (Named n ns) = fold with empty (n ∷ ns)
 
 -- "The '=' operator indicates that the listed capabilities are first reset in all three capability
 -- sets."
-abbrev pub begun : Caps → Operator → Sets → Sets
-begun list Reset s = record {
+abbrev pub after_operator : Caps → Operator → Sets → Sets
+after_operator list Reset s = record {
   effective = less s.effective list;
   inheritable = less s.inheritable list;
   permitted = less s.permitted list;
 }
-begun list Raise s = s
-begun list Lower s = s
+after_operator list Raise s = s
+after_operator list Lower s = s
 
 -- a set after the operator: it raises the listed capabilities there, or lowers them
 abbrev pub moved : Caps → Operator → Caps → Caps
@@ -43,24 +43,25 @@ moved list Raise set = union set list
 moved list Lower set = less set list
 
 -- the three sets after the operator at one of them
-abbrev pub flagged : Caps → Operator → Sets → Letter → Sets
-flagged list operator s letter.Effective =
+abbrev pub after_letter : Caps → Operator → Sets → Letter → Sets
+after_letter list operator s letter.Effective =
     record s { effective = moved list operator s.effective }
-flagged list operator s letter.Inheritable =
+after_letter list operator s letter.Inheritable =
     record s { inheritable = moved list operator s.inheritable }
-flagged list operator s letter.Permitted =
+after_letter list operator s letter.Permitted =
     record s { permitted = moved list operator s.permitted }
 
 -- "the actions are performed in left to right order"
-abbrev pub acted : Caps → Sets → Action → Sets
-acted list s a = fold (flagged list a.operator) (begun list a.operator s) a.letters
+abbrev pub after_action : Caps → Sets → Action → Sets
+after_action list s a =
+    fold (after_letter list a.operator) (after_operator list a.operator s) a.letters
 
-abbrev pub applied : Sets → Clause → Sets
-applied s c = fold (acted (caps_in c.listed)) s (c.first ∷ c.others)
+abbrev pub after_clause : Sets → Clause → Sets
+after_clause s c = fold (after_action (caps_in c.listed)) s (c.first ∷ c.others)
 
 -- the three sets that a text says
-abbrev pub sets_of : Clauses → Sets
-sets_of t = fold applied none (t.first ∷ t.others)
+abbrev pub sets_of_clauses : Clauses → Sets
+sets_of_clauses t = fold after_clause none (t.first ∷ t.others)
 
 -- A file has an effective flag in place of an effective set (capabilities(7), "File capabilities"):
 -- so either no capability of a text is effective, or each that is permitted or inheritable.
@@ -69,8 +70,8 @@ is_whole s =
     (s.effective == empty) || (s.effective == union s.permitted s.inheritable)
 
 -- the attribute of version 2 of these sets
-abbrev pub attribute_of : Sets → Attribute
-attribute_of s = record {
+abbrev pub attribute_of_sets : Sets → Attribute
+attribute_of_sets s = record {
   version = 2;
   perm = s.permitted;
   inh = s.inheritable;
@@ -79,5 +80,5 @@ attribute_of s = record {
 }
 
 -- what these sets are for a file
-abbrev pub answer_of : Sets → Result Attribute TextRefusal
-answer_of s = if is_whole s then Ok (attribute_of s) else Err Mixed
+abbrev pub attribute_or_mixed : Sets → Result Attribute TextRefusal
+attribute_or_mixed s = if is_whole s then Ok (attribute_of_sets s) else Err Mixed

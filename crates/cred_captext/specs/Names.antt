@@ -8,16 +8,16 @@ use Rattle.cred_caps.specs.Names.{cap_names}
 use Rattle.std.specs.declared.option.Option.{Option}
 
 -- in small letters, by number
-abbrev pub names : List (List ℕ)
-names = map (map to_ascii_lowercase) cap_names
+abbrev pub small_names : List (List ℕ)
+small_names = map (map to_ascii_lowercase) cap_names
 
 -- the name of a capability
-abbrev pub name_of : ℕ → List ℕ
-name_of n = slice_index_or names n []
+abbrev pub small_name : ℕ → List ℕ
+small_name n = slice_index_or small_names n []
 
 -- the capability that has this name
-abbrev pub cap_named : List ℕ → Option ℕ
-cap_named word = position (bytes_eq word) names
+abbrev pub cap_of_small_name : List ℕ → Option ℕ
+cap_of_small_name word = position (bytes_eq word) small_names
 
 -- the name begins with these bytes
 abbrev pub begins_with : List ℕ → List ℕ → Bool
@@ -25,9 +25,9 @@ begins_with name word = bytes_eq (take (length word) name) word
 
 -- some name does
 abbrev pub begins_name : List ℕ → Bool
-begins_name word = list_any (λ name. begins_with name word) names
+begins_name word = list_any (λ name. begins_with name word) small_names
 
 -- so many bytes are a front of the name of capability n
-pub record IsFront (n k : ℕ) : Type 0 where
+pub record IsNamePrefix (n k : ℕ) : Type 0 where
   pub cap : IsCap n
-  pub within : k ≤ length (name_of n)
+  pub within : k ≤ length (small_name n)

@@ -2,16 +2,16 @@
 use Rattle.std.specs.Prelude.{ℕ, Bool, true, false, List, [], ◌∷◌, ◌++◌, codes}
 use Rattle.std.specs.List.{flat_map}
 use Rattle.cred_caps.specs.Caps.{Caps}
-use Rattle.cred_captext.specs.Names.{name_of}
-use Rattle.cred_captext.specs.Printed.{members}
+use Rattle.cred_captext.specs.Names.{small_name}
+use Rattle.cred_captext.specs.Printed.{cap_numbers}
 
 -- names with a comma between two
-abbrev pub joined : List ℕ → List ℕ
-joined [] = []
-joined (n ∷ ns) = name_of n ++ flat_map (λ m. codes "," ++ name_of m) ns
+abbrev pub comma_names : List ℕ → List ℕ
+comma_names [] = []
+comma_names (n ∷ ns) = small_name n ++ flat_map (λ m. codes "," ++ small_name m) ns
 
 abbrev pub names_text : Caps → List ℕ
-names_text set = joined (members set)
+names_text set = comma_names (cap_numbers set)
 
 -- a space behind what stands there
 abbrev pub spaced : List ℕ → List ℕ
@@ -36,11 +36,11 @@ action_with false letters = codes "=" ++ letters
 abbrev pub clause_with : List ℕ → List ℕ → Bool → List ℕ → List ℕ
 clause_with before [] effective letters = before
 clause_with before (n ∷ ns) effective letters =
-    (spaced before ++ joined (n ∷ ns)) ++ action_with effective letters
+    (spaced before ++ comma_names (n ∷ ns)) ++ action_with effective letters
 
 -- a text and the clause of a set behind it, if the set has one
 abbrev pub with_clause : List ℕ → Caps → Bool → List ℕ → List ℕ
-with_clause before set effective letters = clause_with before (members set) effective letters
+with_clause before set effective letters = clause_with before (cap_numbers set) effective letters
 
 -- `=` where nothing stands there
 abbrev pub or_none : List ℕ → List ℕ

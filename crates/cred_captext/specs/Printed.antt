@@ -10,12 +10,12 @@ use Rattle.cred_captext.specs.declared.action.Letter.TheVariants.{Permitted}
 use Rattle.cred_captext.specs.Grammar.{Listed, Unsaid, Named, Clause, Clauses}
 
 -- the capabilities of a set below a number, in order
-unfoldable pub members_below : ℕ → Caps → List ℕ
-members_below n set = filter (has set) (range_with_len 0 n)
+unfoldable pub cap_numbers_below : ℕ → Caps → List ℕ
+cap_numbers_below n set = filter (has set) (range_with_len 0 n)
 
 -- those of a set
-abbrev pub members : Caps → List ℕ
-members set = members_below 41 set
+abbrev pub cap_numbers : Caps → List ℕ
+cap_numbers set = cap_numbers_below 41 set
 
 -- an effective flag is a letter more in each clause
 abbrev pub with_flag : Bool → List Letter → List Letter
@@ -37,10 +37,10 @@ clauses_of (n ∷ ns) letters = clause (Named n ns) letters ∷ []
 -- first what is permitted alone, then what is in both sets, then what is inheritable alone
 abbrev pub clauses : Attribute → List Clause
 clauses a =
-    clauses_of (members (less a.perm a.inh)) (with_flag a.effective (Permitted ∷ [])) ++
-    (clauses_of (members (meet a.perm a.inh))
+    clauses_of (cap_numbers (less a.perm a.inh)) (with_flag a.effective (Permitted ∷ [])) ++
+    (clauses_of (cap_numbers (meet a.perm a.inh))
     (with_flag a.effective (Inheritable ∷ Permitted ∷ [])) ++
-    clauses_of (members (less a.inh a.perm)) (with_flag a.effective (Inheritable ∷ [])))
+    clauses_of (cap_numbers (less a.inh a.perm)) (with_flag a.effective (Inheritable ∷ [])))
 
 -- where there is none, the text is `=`
 abbrev pub some_clauses : List Clause → Clauses

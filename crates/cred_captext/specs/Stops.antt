@@ -1,12 +1,12 @@
 -- Where a reader stops.
 use Rattle.std.specs.Prelude.{◌≡◌, ℕ, ◌<◌, ◌≤◌, List, Some, None, take, length, slice_index}
-use Rattle.cred_captext.specs.declared.reader.Reader.{Reader}
-use Rattle.cred_captext.specs.Machine.{start, run, step, ended}
+use Rattle.cred_captext.specs.declared.bytes.Reader.{Reader}
+use Rattle.cred_captext.specs.Machine.{first_reader, run, after_byte, sets_at_end}
 
 -- so many bytes were read, and the next one goes on no text, or there is none and no text ends here
-pub record Stops (bytes : List ℕ) (k : ℕ) : Type 0 where
+pub record StopsAt (bytes : List ℕ) (k : ℕ) : Type 0 where
   pub reader : Reader
-  pub read : run start (take k bytes) ≡ Some reader
+  pub read : run first_reader (take k bytes) ≡ Some reader
   pub within : k ≤ length bytes
-  pub next : k < length bytes → step reader (slice_index bytes k) ≡ None
-  pub last : k ≡ length bytes → ended reader ≡ None
+  pub next : k < length bytes → after_byte reader (slice_index bytes k) ≡ None
+  pub last : k ≡ length bytes → sets_at_end reader ≡ None

@@ -5,10 +5,10 @@
 #![tactic(auto)]
 
 mod action;
-mod front;
+mod bytes;
 pub mod laws;
+mod prefix;
 mod printing;
-mod reader;
 mod reading;
 pub mod refusal;
 mod sets;

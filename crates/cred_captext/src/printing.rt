@@ -1,12 +1,12 @@
 //! A text written.
 ghost use Rattle.std.specs.Prelude.{◌≡◌, ◌++◌, IfOk, OnOk};
-ghost use Rattle.cred_captext.specs.Grammar.{text_of};
-ghost use Rattle.cred_captext.specs.Names.{name_of};
+ghost use Rattle.cred_captext.specs.Grammar.{clauses_text};
+ghost use Rattle.cred_captext.specs.Names.{small_name};
 ghost use Rattle.cred_captext.specs.Printed.{printed, HasText};
 ghost use Rattle.cred_captext.specs.Pieces as pieces;
-ghost use Rattle.cred_captext.specs.Reading.{Says};
+ghost use Rattle.cred_captext.specs.Reading.{TextSays};
 
-use crate::front::capitals;
+use crate::prefix::capitals;
 use cred_caps::{Cap, CapSet};
 use cred_filecap::FileCaps;
 use cred_ids::{Bytes as Text, NoMemory};
@@ -14,7 +14,7 @@ use std::alloc::Global;
 
 /// Appends the name of a capability, in small letters.
 fn append_name(out: &mut Vec<u8>, cap: Cap) -> Result<(), NoMemory>
-    ensures { OnOk result (out.new.items ≡ out.old.items ++ name_of cap) }
+    ensures { OnOk result (out.new.items ≡ out.old.items ++ small_name cap) }
 {
     let name = capitals(cap);
     for byte in name {
@@ -26,7 +26,7 @@ fn append_name(out: &mut Vec<u8>, cap: Cap) -> Result<(), NoMemory>
 /// Appends the name of a capability, behind a comma where another name stands before it.
 fn append_next(out: &mut Vec<u8>, comma: bool, cap: Cap) -> Result<(), NoMemory>
     ensures { OnOk result
-        (out.new.items ≡ out.old.items ++ (pieces.comma_text comma ++ name_of cap)) }
+        (out.new.items ≡ out.old.items ++ (pieces.comma_text comma ++ small_name cap)) }
 {
     if comma {
         out.push(b',')?;
@@ -111,10 +111,10 @@ fn append_none(out: &mut Vec<u8>) -> Result<(), NoMemory>
 ///
 /// `NoMemory` if the allocation of the text fails.
 pub fn print_text(alloc: Global, caps: &FileCaps) -> Result<Text, NoMemory>
-    ensures text { IfOk result (λ text. text ≡ text_of (printed caps.now)) }
+    ensures text { IfOk result (λ text. text ≡ clauses_text (printed caps.now)) }
 
     // What is written is read as the same attribute, where a text can say it.
-    ensures read { IfOk result (λ text. HasText caps.now → Says text caps.now) }
+    ensures read { IfOk result (λ text. HasText caps.now → TextSays text caps.now) }
 {
     // `bits` shows the proof that each is a set.
     let _ = (caps.perm.bits(), caps.inh.bits());

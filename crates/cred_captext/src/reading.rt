@@ -2,11 +2,11 @@
 ghost use Rattle.std.specs.Prelude.{◌≡◌, IfOk, IfErr, Some};
 ghost use Rattle.cred_captext.specs.Grammar.{Clauses};
 ghost use Rattle.cred_captext.specs.Machine as machine;
-ghost use Rattle.cred_captext.specs.Meaning.{answer_of, sets_of};
-ghost use Rattle.cred_captext.specs.Reading.{Spells, Says, IsRefused};
-ghost use Rattle.cred_captext.specs.Stops.{Stops};
+ghost use Rattle.cred_captext.specs.Meaning.{attribute_or_mixed, sets_of_clauses};
+ghost use Rattle.cred_captext.specs.Reading.{SpellsClauses, TextSays, IsRefused};
+ghost use Rattle.cred_captext.specs.Stops.{StopsAt};
 
-use crate::reader::Reader;
+use crate::bytes::Reader;
 use crate::refusal::TextRefusal;
 use crate::sets::Sets;
 use cred_filecap::FileCaps;
@@ -16,22 +16,22 @@ const VERSION: u8 = 2;
 
 /// The sets that a text says, or how many of its bytes some text begins with.
 fn sets_in(text: &[u8]) -> Result<Sets, usize>
-    ensures sets { IfOk result (λ s. machine.said machine.start text.now ≡ Some s) }
-    ensures stops { IfErr result (λ k. Stops text.now k) }
+    ensures sets { IfOk result (λ s. machine.sets_said machine.first_reader text.now ≡ Some s) }
+    ensures stops { IfErr result (λ k. StopsAt text.now k) }
 {
     let mut reader = Reader::start();
     for (place, byte) in text.iter().enumerate() {
-        match reader.step(*byte) {
+        match reader.after_byte(*byte) {
             Some(next) => reader = next,
             None => return Err(place),
         }
     }
-    reader.ended().ok_or(text.len())
+    reader.sets_at_end().ok_or(text.len())
 }
 
 /// What these sets are for a file, of which an effective set is a flag.
 fn caps_of(sets: &Sets) -> Result<FileCaps, TextRefusal>
-    ensures { result ≡ answer_of sets.now }
+    ensures { result ≡ attribute_or_mixed sets.now }
 {
     let nothing = sets.effective.bits() == 0;
     let either = sets.permitted.union(&sets.inheritable);
@@ -62,10 +62,11 @@ fn caps_of(sets: &Sets) -> Result<FileCaps, TextRefusal>
 ///   some text begins.
 /// - `Mixed` where the effective set is neither empty nor all that is permitted or inheritable.
 pub fn read_text(text: &[u8]) -> Result<FileCaps, TextRefusal>
-    ensures value { IfOk result (λ a. Says text.now a) }
+    ensures value { IfOk result (λ a. TextSays text.now a) }
 
     // No text is refused as none, or read as other clauses.
-    ensures each_value { (t : Clauses) → Spells text.now t → result ≡ answer_of (sets_of t) }
+    ensures each_value { (t : Clauses) → SpellsClauses text.now t → result
+        ≡ attribute_or_mixed (sets_of_clauses t) }
     ensures refusal { IfErr result (λ e. IsRefused text.now e) }
 {
     match sets_in(text) {

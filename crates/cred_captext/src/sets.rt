@@ -29,8 +29,8 @@ impl Sets {
     }
 
     /// The sets behind an operator: `=` takes the listed capabilities out of all three.
-    pub fn begun(&self, list: CapSet, operator: Operator) -> Sets
-        ensures { result ≡ meaning.begun list operator self.now }
+    pub fn after_operator(&self, list: CapSet, operator: Operator) -> Sets
+        ensures { result ≡ meaning.after_operator list operator self.now }
     {
         match operator {
             Operator::Reset => Sets {
@@ -44,8 +44,8 @@ impl Sets {
 
     /// The sets behind a letter: the listed capabilities come into the one that it names, or leave
     /// it.
-    pub fn flagged(&self, list: CapSet, operator: Operator, letter: Letter) -> Sets
-        ensures { result ≡ meaning.flagged list operator self.now letter }
+    pub fn after_letter(&self, list: CapSet, operator: Operator, letter: Letter) -> Sets
+        ensures { result ≡ meaning.after_letter list operator self.now letter }
     {
         match letter {
             Letter::Effective => Sets {

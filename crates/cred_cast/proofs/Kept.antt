@@ -1,6 +1,7 @@
 -- What stays true of the open broadcasts when one is begun, when a thread waits no longer or a new
 -- one waits, and when one is dropped.
-use Rattle.std.proofs.Common.{◌≡◌, ◌≢◌, ◌==◌, ◌||◌, not, ℕ, List, [], ◌∷◌, ◌++◌, map, get_or, None, Some, Bool, true, false, if◌then◌else◌, refl, sym, ap, ◌∙◌, arith}
+use Rattle.std.proofs.Common.{◌≡◌, ◌≢◌, ◌==◌, ◌||◌, not, ℕ, List, [], ◌∷◌, ◌++◌, map, get_or, None, Some, Bool, true, false, if◌then◌else◌, refl, sym, ap, ◌∙◌}
+use Rattle.std.proofs.Common.{arith}
 use Rattle.std.specs.List.{All, AllPairs, filter}
 use Rattle.std.proofs.lemmas.Bool.{cond_both, eqb-false, eqb-true}
 use Rattle.std.proofs.lemmas.Bool.Decides.{nat_tests}
@@ -11,11 +12,11 @@ use Rattle.std.proofs.lemmas.List.Kept.{AllPairs-filter}
 use Rattle.std.proofs.lemmas.List.Quantifiers.{all_pairs_push}
 use Rattle.cred_ids.specs.Ordered.{in_order}
 use Rattle.cred_model.specs.State.{Broadcast}
-use Rattle.cred_model.specs.Casts.{waits_in, is_open, without_waiter, waits_no_more, with_child, joined, dropped}
+use Rattle.cred_model.specs.Casts.{waits_in, is_open, without_waiter, waits_no_more, with_child, joined, dropped, WaitsNowhere, SharesNone}
 use Rattle.cred_model.proofs.Lists.{All-kept, AllPairs-map, AllPairs-weaker, Differ, found, none_passes}
 use Rattle.cred_model.proofs.Rising.{Below, any-in_order, length-in_order, rising-in_order, rising_differ}
 use Rattle.cred_sound.proofs.Unique.{none_has}
-use Rattle.cred_cast.specs.Casts.{cast_under, cast_within, WaitsNowhere, SharesNone, AreCasts}
+use Rattle.cred_cast.specs.Casts.{cast_under, cast_within, AreCasts}
 
 abbrev number_of : Broadcast → ℕ
 number_of cast = cast.number

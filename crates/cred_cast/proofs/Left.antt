@@ -1,5 +1,6 @@
 -- A task waits in one broadcast alone: where it leaves that one, it has left all.
-use Rattle.std.proofs.Common.{◌≡◌, ◌==◌, not, ℕ, zero, suc, ◌+◌, ◌<◌, nat_lt, cond, List, [], ◌∷◌, map, get_or, set, slice_get, length, None, Some, true, false, Bool, refl, sym, ap, ◌∙◌, subst, arith}
+use Rattle.std.proofs.Common.{◌≡◌, ◌==◌, not, ℕ, zero, suc, ◌+◌, ◌<◌, nat_lt, cond, List, [], ◌∷◌, map, get_or, set, slice_get, length, None, Some, true, false}
+use Rattle.std.proofs.Common.{Bool, refl, sym, ap, ◌∙◌, subst, arith}
 use Rattle.std.specs.List.{All, AllPairs, filter, find, position, position_or_len, remove}
 use Rattle.std.specs.Option.{IfSome, IsSomeAnd}
 use Rattle.std.proofs.lemmas.Bool.Decides.{nat_tests}
@@ -8,10 +9,10 @@ use Rattle.std.proofs.lemmas.List.Folds.{find_at}
 use Rattle.std.proofs.lemmas.List.Quantifiers.{position-Some}
 use Rattle.std.proofs.lemmas.Option.{slice_get-get_or}
 use Rattle.cred_model.specs.State.{Broadcast}
-use Rattle.cred_model.specs.Casts.{waits_in, is_open, without_waiter, waits_no_more}
+use Rattle.cred_model.specs.Casts.{waits_in, is_open, without_waiter, waits_no_more, WaitsNowhere, SharesNone}
 use Rattle.cred_model.proofs.Lists.{none_found}
 use Rattle.cred_model.proofs.Rising.{AllPairs-head, AllPairs-tail, Below}
-use Rattle.cred_cast.specs.Casts.{WaitsNowhere, SharesNone, AreCasts}
+use Rattle.cred_cast.specs.Casts.{AreCasts}
 use Rattle.cred_cast.proofs.Joined.{none_placed}
 use Rattle.cred_cast.proofs.Kept.{IsOpen}
 use Rattle.cred_cast.proofs.Falling.{one_fewer, stays}

@@ -1,9 +1,9 @@
 -- The table of open broadcasts, as the list of them (nptl(7)).
-use Rattle.std.specs.Prelude.{◌≡◌, ◌≢◌, ℕ, ◌<◌, ◌==◌, true, false, List, All, find}
+use Rattle.std.specs.Prelude.{◌≡◌, ◌≢◌, ℕ, ◌<◌, ◌==◌, true, List, All, find}
 use Rattle.std.specs.declared.option.Option.{Option}
 use Rattle.std.specs.List.{AllPairs}
 use Rattle.cred_model.specs.State.{Broadcast}
-use Rattle.cred_model.specs.Casts.{waits_in, is_open}
+use Rattle.cred_model.specs.Casts.{is_open, SharesNone}
 
 -- the broadcast of this number
 abbrev pub cast_under : List Broadcast → ℕ → Option Broadcast
@@ -16,14 +16,6 @@ cast_within casts process = find (λ b. b.process == process) casts
 -- the broadcast that a task has begun
 abbrev pub cast_by : List Broadcast → ℕ → Option Broadcast
 cast_by casts task = find (λ b. b.caller == task) casts
-
--- The task waits in none of them.
-abbrev pub WaitsNowhere : List Broadcast → ℕ → Type 0
-WaitsNowhere casts task = All (λ b. waits_in task b ≡ false) casts
-
--- Nobody waits in both.
-abbrev pub SharesNone : Broadcast → Broadcast → Type 0
-SharesNone a b = (task : ℕ) → waits_in task a ≡ true → waits_in task b ≡ false
 
 -- No two have one number, no two are open in one process, and no task waits in two. In each
 -- somebody waits: those tasks in rising order, none of them twice.

@@ -1,13 +1,14 @@
 //! The table of open broadcasts.
-ghost use Rattle.std.specs.Prelude.{◌≡◌, ◌≢◌, ◌==◌, ℕ, ◌+◌, ◌<◌, [], All, length};
-ghost use Rattle.std.specs.Prelude.{slice_get, vec_len, true, None, IfOk, IfSome, OnOk, OnErr};
+ghost use Rattle.std.specs.Prelude.{◌≡◌, ◌≢◌, ◌==◌, ◌+◌, ◌<◌, [], All, length};
+ghost use Rattle.std.specs.Prelude.{slice_get, vec_len, true, None, IfSome, OnOk, OnErr};
 ghost use Rattle.std.specs.List.{AllPairs, position, remove};
 ghost use Rattle.std.specs.Option.{IsSomeAnd, option_map};
 ghost use Rattle.cred_ids.specs.Ordered.{in_order};
 ghost use Rattle.cred_model.specs.Casts.{waits_in, with_cast, waits_no_more, joined, dropped};
-ghost use Rattle.cred_cast.specs.Casts.{cast_under, cast_within, cast_by, WaitsNowhere, AreCasts};
+ghost use Rattle.cred_model.specs.Casts.{WaitsNowhere};
+ghost use Rattle.cred_cast.specs.Casts.{cast_under, cast_within, cast_by, AreCasts};
 
-use crate::cast::{Cast, falling};
+use crate::one_cast::{Cast, falling};
 use cred_ids::NoMemory;
 use cred_record::IdCall;
 use std::alloc::Global;

@@ -1,8 +1,8 @@
-//! The open broadcasts: which threads of a process still have to make a call that another thread
-//! of theirs has made (nptl(7)).
+//! The open broadcasts: the id call that every thread of a process makes (nptl(7)), and who still
+//! has to.
 #![tactic(auto)]
 
-mod cast;
 pub mod casts;
+mod one_cast;
 
 pub use casts::Casts;

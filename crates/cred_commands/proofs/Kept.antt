@@ -5,7 +5,7 @@ use Rattle.std.proofs.lemmas.List.Concat.{flat_map-append}
 use Rattle.std.specs.Io.KnownBytes.{Appends}
 use Rattle.std.proofs.KnownBytes.{Appends-nil}
 use Rattle.cred_io.specs.declared.sink.SinkRefusal.{SinkRefusal}
-use Rattle.cred_order.proofs.Order.{begins_sequence, nothing_past}
+use Rattle.cred_commands.proofs.Order.{begins_sequence, nothing_past}
 use Rattle.cred_said.proofs.Prefixes.{refused_apart, whole}
 use Rattle.std.specs.Result.{OnOk, OnErr}
 use Rattle.cred_io.specs.Ends.{AppendsPrefix}
@@ -13,8 +13,8 @@ use Rattle.cred_io.proofs.Known.{appends_more}
 use Rattle.cred_event.specs.declared.entry.Entry.{Entry}
 use Rattle.cred_model.specs.Script.{Script}
 use Rattle.cred_model.specs.State.{State, opening}
-use Rattle.cred_order.specs.Order.{HasRun, IsAfter, RunsOn}
-use Rattle.cred_order.proofs.Ends.{goes_to_end, is_whole, nothing_run}
+use Rattle.cred_commands.specs.Order.{HasRun, IsAfter, RunsOn}
+use Rattle.cred_commands.proofs.Ends.{goes_to_end, is_whole, nothing_run}
 use Rattle.cred_report.specs.Text.{entry_text, text}
 use Rattle.cred_report.proofs.Journals.{take_past}
 use Rattle.cred_said.specs.Ends.{status_after}
@@ -31,7 +31,8 @@ pub kept_has_run : (script : Script) (past : ℕ) (state : State) (kept : List E
     → Kept script past state kept before now → HasRun script past state
 kept_has_run script past state kept before now is = (is.done ++ kept, is.after)
 
-pub kept_first : (script : Script) (state : State) (before : Option (List ℕ)) → state ≡ opening script → Appends before before [] → Kept script 0 state [] before before
+pub kept_first : (script : Script) (state : State) (before : Option (List ℕ)) → state ≡ opening script → Appends before before []
+    → Kept script 0 state [] before before
 kept_first script state before is none = record {
   done = [];
   after = nothing_run script state is;

@@ -1,3 +1,7 @@
+pub mod Order
+pub mod Goes
+pub mod Ends
+pub mod Pushed
 pub mod Kept
 pub mod Told
 pub mod Summed

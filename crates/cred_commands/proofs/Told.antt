@@ -8,8 +8,8 @@ use Rattle.cred_laws.proofs.AnsweredLaws.{in_order_is_answered}
 use Rattle.cred_generate.specs.Summary.{HasRoom, nothing_told, told_on}
 use Rattle.cred_generate.specs.declared.summing.Summary.{Summary}
 use Rattle.cred_generate.proofs.Told.{room_for, told_on-append, told_whole}
-use Rattle.cred_order.specs.Order.{HasRun, IsAfter, RunsOn, most_left}
-use Rattle.cred_order.proofs.Ends.{is_whole, nothing_run}
+use Rattle.cred_commands.specs.Order.{HasRun, IsAfter, RunsOn, most_left}
+use Rattle.cred_commands.proofs.Ends.{is_whole, nothing_run}
 use Rattle.cred_commands.specs.Summing.{TellsSequence}
 
 -- So many lines have run, and all their entries were told of; there are no more than there may be.
@@ -53,7 +53,8 @@ told_more script past state after told has is runs =
     }
 
 -- where all lines have run it is the summary of the sequence
-pub told_all : (script : Script) (past : ℕ) (state : State) (told : Summary) → Told script past state told → length script.lines ≤ past → TellsSequence script told
+pub told_all : (script : Script) (past : ℕ) (state : State) (told : Summary) → Told script past state told → length script.lines ≤ past
+    → TellsSequence script told
 told_all script past state told is all =
     let sequence = is_whole script is.done past state is.after all in
     (is.done, sequence, is.is ∙ told_whole script is.done (in_order_is_answered script is.done is.after.order))

@@ -1,7 +1,8 @@
-//! What `run` and `gen` do, over their input and their output: all lines of a script run whole and
-//! in order, on one state.
+//! `run` and `gen` over their input and their output: all lines of a script run whole and in order,
+//! a line at a time, on one state. No journal is kept.
 #![tactic(auto)]
 
+mod line;
 mod ordered;
 mod summing;
 

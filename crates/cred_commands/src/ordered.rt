@@ -1,7 +1,6 @@
 //! Running a script's lines in order, and writing the entries of each as they come: no journal is
 //! kept.
 ghost use Rattle.std.specs.Prelude.{◌≡◌, ◌≤◌, ◌⊎◌, [], true, OnOk, OnErr, length};
-ghost use Rattle.std.specs.Io.KnownBytes.{Appends};
 ghost use Rattle.cred_ids.specs.Limits.{BYTE_LIMIT, LINE_LIMIT};
 ghost use Rattle.cred_model.specs.Journal.{IsSequence};
 ghost use Rattle.cred_model.specs.State.{opening};
@@ -12,13 +11,13 @@ ghost use Rattle.cred_said.specs.Ends.{IsForText};
 ghost use Rattle.cred_said.specs.Leaves.{IsReading, IsWriting, LeavesReport, RunsBytes};
 ghost use Rattle.cred_commands.specs.Sequences.{AppendsSequence, WritesSequenceStart, HandsOver};
 
+use crate::line::run_line;
 use cred_event::Entry;
 use cred_grammar::{line_count, read};
 use cred_hold::Cells;
 use cred_ids::limits;
 use cred_io::{ReadRefusal, Sink, SinkRefusal, Source, read_all};
-use cred_order::run_line;
-use cred_pen::Pen;
+use cred_report::Pen;
 use cred_said::{Status, bad_line, finish, tell_said, write_entries, write_last};
 use cred_script::Script;
 use cred_state::State;
@@ -89,7 +88,7 @@ fn write_lines<K: Sink>(
     write_last(sink, &mut pen, script, &entries)
 }
 
-/// The same, on a state of its own: to own one is dear to prove, so nothing else is done here.
+/// The same, on a state of its own: to own one is expensive to prove, so nothing else is done here.
 ///
 /// # Errors
 ///

@@ -5,11 +5,11 @@ ghost use Rattle.cred_said.specs.Leaves.{IsWriting};
 ghost use Rattle.cred_commands.specs.Summing.{IsCount, LeavesSummary, SaysSummary, TellsSequence};
 ghost use Rattle.cred_said.specs.Texts as spec;
 
+use crate::line::run_line;
 use cred_generate::{Summary, generate};
 use cred_hold::Cells;
 use cred_ids::NoMemory;
 use cred_io::Sink;
-use cred_order::run_line;
 use cred_said::{Said, Status, tell_said};
 use cred_script::Script;
 use cred_state::State;
@@ -61,7 +61,7 @@ fn tell_lines(
     Ok(told)
 }
 
-/// The same, on a state of its own: to own one is dear to prove, so nothing else is done here.
+/// The same, on a state of its own: to own one is expensive to prove, so nothing else is done here.
 fn tell_in_order(alloc: Global, script: &Script) -> Result<Summary, NoMemory>
     ensures { IfOk result (λ told. TellsSequence script.now told) }
 {

@@ -1,11 +1,12 @@
 -- Which answers and which events hold a list: to copy one of these takes memory.
-use Rattle.std.specs.Prelude.{⊤, Some, None}
+use Rattle.std.specs.Prelude.{⊤, Some}
 use Rattle.cred_record.specs.Calls.{IsSetGroups}
 use Rattle.cred_event.specs.declared.answer.Answer.{Answer}
 use Rattle.cred_event.specs.declared.answer.Answer.TheVariants.{Told}
 use Rattle.cred_event.specs.declared.answer.Told.TheVariants.{Groups}
 use Rattle.cred_event.specs.declared.event.Event.{Event}
-use Rattle.cred_event.specs.declared.event.Event.TheVariants.{Begin, Chown, Chmod, SetAttr, Stat, Raw}
+use Rattle.cred_event.specs.declared.event.Event.TheVariants.{Begin, Chown, Chmod, SetAttr, Stat}
+use Rattle.cred_event.specs.declared.event.Event.TheVariants.{Raw}
 
 -- the answer to a question about groups: a list
 abbrev pub HoldsList : Answer → Type 0

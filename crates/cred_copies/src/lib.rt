@@ -1,4 +1,4 @@
-//! Equal events and answers, in memory of their own.
+//! Copies of events and answers: read it as part of `cred_event`.
 //!
 //! `specs/Lists` says which of them hold a list: to copy one of these takes memory.
 #![tactic(auto)]

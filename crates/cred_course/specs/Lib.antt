@@ -1,1 +1,4 @@
 pub mod Range
+pub mod Cursor
+pub mod LaneCursors
+pub mod Waiting

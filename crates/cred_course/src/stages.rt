@@ -1,6 +1,5 @@
 //! The stage that follows an answer.
 ghost use Rattle.std.specs.Prelude.{◌≡◌};
-ghost use Rattle.cred_model.specs.Answers.{is_ok};
 ghost use Rattle.cred_model.specs.Course as spec;
 
 use cred_event::{Answer, Content, Stage};
@@ -10,7 +9,7 @@ use cred_event::{Answer, Content, Stage};
 pub(crate) fn next_stage(content: &Content, stage: Stage, answer: &Answer) -> Option<Stage>
     ensures { result ≡ spec.next_stage content.now stage answer.now }
 {
-    let ok = is_ok(answer);
+    let ok = answer.is_ok();
     let then = |done, refused| Some(if ok { done } else { refused });
     match (content, stage) {
         (Content::Id { .. }, Stage::First | Stage::Acting) if some_wait(answer) => {
@@ -69,21 +68,4 @@ fn some_wait(answer: &Answer) -> bool
         Answer::Began { left, .. } | Answer::Acted { left, .. } => *left != 0,
         _ => false,
     }
-}
-
-/// Whether the event was not refused.
-fn is_ok(answer: &Answer) -> bool
-    ensures { result ≡ is_ok answer.now }
-{
-    matches!(
-        answer,
-        Answer::Done
-            | Answer::Sealed { .. }
-            | Answer::Kept { .. }
-            | Answer::Was { .. }
-            | Answer::Executed { .. }
-            | Answer::Began { .. }
-            | Answer::Acted { .. }
-            | Answer::Told(_)
-    )
 }

@@ -2,6 +2,7 @@
 ghost use Rattle.std.specs.Prelude.{◌≡◌, IfOk};
 ghost use Rattle.std.specs.Option.{option_map};
 ghost use Rattle.cred_model.specs.Change as spec;
+ghost use Rattle.cred_model.specs.Step.{committed_by};
 ghost use Rattle.cred_rules.specs.Exec.{exec};
 
 use cred_access::access_cred;
@@ -106,5 +107,21 @@ pub fn change(
             None => Ok(Err(Answer::Eacces)),
         },
         Change::Access => Ok(Ok(without_gains(Answer::Done, access_cred(cred)?))),
+    }
+}
+
+/// What a commit answers, by what the change was, and what the new credential gains: that was
+/// sealed under this number in this slot, and so many tasks ended.
+pub fn committed_by(change: Change, gains: &Gains, cred: u64, slot: u32, ended: u32) -> Answer
+    ensures { result ≡ committed_by change gains.now cred slot ended }
+{
+    match change {
+        Change::Exec { .. } => Answer::Executed {
+            cred,
+            slot,
+            ended,
+            gains: *gains,
+        },
+        _ => Answer::Sealed { cred, slot },
     }
 }

@@ -1,5 +1,7 @@
-//! What an event sees besides the tables of tasks and labels: the file that it names, as it stands,
-//! and the user namespaces that the script declares. Both bodies of a step ask here.
+//! What an event sees of its script: files as they stand, the chain and the root of a user
+//! namespace. Read it as part of `cred_script`.
+//!
+//! Both bodies of a step ask here.
 #![tactic(auto)]
 
 mod declared;

@@ -1,4 +1,7 @@
 //! What an event is answered.
+ghost use Rattle.std.specs.Prelude.{◌≡◌};
+ghost use Rattle.cred_event.specs.Answers as spec;
+
 use cred_caps::{CapSet, SecureBits};
 use cred_ids::{Id, Ids4};
 use cred_record::{Gains, IdList};
@@ -121,4 +124,23 @@ pub enum Answer {
         task: u32,
         cause: AbortCause,
     },
+}
+
+impl Answer {
+    /// Whether the event was not refused.
+    pub fn is_ok(&self) -> bool
+        ensures { result ≡ spec.is_ok self.now }
+    {
+        matches!(
+            self,
+            Answer::Done
+                | Answer::Sealed { .. }
+                | Answer::Kept { .. }
+                | Answer::Was { .. }
+                | Answer::Executed { .. }
+                | Answer::Began { .. }
+                | Answer::Acted { .. }
+                | Answer::Told(_)
+        )
+    }
 }

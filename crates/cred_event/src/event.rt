@@ -79,7 +79,7 @@ pub enum Event {
         label: u32,
         fd: u32,
     },
-    /// The label lets go of what it holds.
+    /// The label drops what it holds.
     Release {
         label: u32,
     },
@@ -158,7 +158,7 @@ pub enum Event {
     Exit {
         task: u32,
     },
-    /// Every reference that was given up lets go of its credential.
+    /// Every reference that was given up is dropped.
     Sweep,
     /// The task's process is dumpable from now on, or isn't: the value is 1 or 0 (prctl(2),
     /// PR_SET_DUMPABLE).

@@ -1,7 +1,8 @@
-//! The data of a run: what a script's line holds, the events that it makes one after another,
-//! the answer that each event gets, and the entry of the journal that keeps the two.
+//! The events of a run, their answers and the entries of its journal, and what a script's line
+//! holds: plain data alone.
 //!
-//! Everything here is plain data. What an event does and answers is defined in `cred_model`.
+//! What an event does and answers is defined in `cred_model`; `specs/Answers` says which answers
+//! are refusals.
 #![tactic(auto)]
 
 mod answer;

@@ -9,8 +9,10 @@ use Rattle.cred_record.specs.declared.gains.Gains.{Gains}
 use Rattle.cred_record.specs.Credential.{Credential}
 use Rattle.cred_record.specs.File.{File}
 use Rattle.cred_rules.specs.Attribute.{Attribute}
-use Rattle.cred_rules.specs.Exec.{Executed, NoExec, MayNotExecute, GivesTooLittle, exec, may_execute, attribute_for, executed_by, gives_all, after_exec, gains_of, is_by_root, is_privileged, given_by, sets_taken, sets_of, amb_after, limited, perm_after}
-use Rattle.cred_exec.specs.Laws.{AreGains, GainsNothing, KeepsSets, KeepsIdentity, GainsAreWhatIsGained, NoNewPrivsGainsNothing, PlainFilesKeepAmbient, PrivilegedFilesEmptyAmbient, InheritableAndBoundingStay, OtherSecurebitsStay, RealIdsAndGroupsStay}
+use Rattle.cred_rules.specs.Exec.{Executed, NoExec, MayNotExecute, GivesTooLittle, exec, may_execute, attribute_for, executed_by, gives_all, after_exec}
+use Rattle.cred_rules.specs.Exec.{gains_of, is_by_root, is_privileged, given_by, sets_taken, sets_of, amb_after, limited, perm_after}
+use Rattle.cred_exec.specs.Laws.{AreGains, GainsNothing, KeepsSets, KeepsIdentity, GainsAreWhatIsGained, NoNewPrivsGainsNothing, PlainFilesKeepAmbient}
+use Rattle.cred_exec.specs.Laws.{PrivilegedFilesEmptyAmbient, InheritableAndBoundingStay, OtherSecurebitsStay, RealIdsAndGroupsStay}
 use Rattle.cred_exec.proofs.Parts.{empty-within, meet-empty, less-empty, empty-union, parts-apart, parts-all, less-small}
 
 -- ---- what an execve gives

@@ -1,6 +1,5 @@
 //! The credential of the task after execve.
 ghost use Rattle.std.specs.Prelude.{◌≡◌, IfOk};
-ghost use Rattle.cred_caps.specs.Caps.{IsWithin};
 ghost use Rattle.cred_rules.specs.Exec.{is_privileged, amb_after, limited, perm_after};
 ghost use Rattle.cred_rules.specs.Exec.{eff_after, after_exec};
 

@@ -2,7 +2,8 @@
 use Rattle.std.proofs.Common.{◌≡◌, ◌==◌, ◌⊎◌, inl, inr, ℕ, false, List, sym, ap, subst, ◌∙◌, arith, rules, tests}
 use Rattle.std.proofs.lemmas.List.Folds.{list_any_none}
 use Rattle.cred_ids.specs.Id.{NO_ID, IsId}
-use Rattle.cred_rules.specs.Attribute.{Attribute, SpellsSet, IsVersion1, IsVersion2, IsVersion3, high_in, perm_low, perm_high, inh_low, inh_high, counts_everywhere}
+use Rattle.cred_rules.specs.Attribute.{Attribute, SpellsSet, IsVersion1, IsVersion2, IsVersion3, high_in, perm_low, perm_high, inh_low, inh_high}
+use Rattle.cred_rules.specs.Attribute.{counts_everywhere}
 use Rattle.cred_filecap.specs.Laws.{NoBytesSpellTwo, NoIdCountsNowhere}
 use Rattle.cred_filecap.proofs.SetLemmas.{same-set}
 

@@ -1,5 +1,6 @@
 -- The bytes that are written for an attribute.
-use Rattle.std.proofs.Common.{◌≡◌, ◌⊎◌, inl, inr, ℕ, ◌+◌, ◌*◌, ◌/◌, ◌%◌, ◌^◌, ◌<◌, ◌==◌, Bool, true, false, if◌then◌else◌, List, [], ◌++◌, refl, sym, ap, ◌∙◌, IsTrue, arith, rules, tests}
+use Rattle.std.proofs.Common.{◌≡◌, ◌⊎◌, inl, inr, ℕ, ◌+◌, ◌*◌, ◌/◌, ◌%◌, ◌^◌, ◌<◌, ◌==◌, Bool, true, false, if◌then◌else◌, List, [], ◌++◌, refl, sym, ap, ◌∙◌}
+use Rattle.std.proofs.Common.{IsTrue, arith, rules, tests}
 use Rattle.std.specs.Int.{bit_at, byte_at}
 use Rattle.std.proofs.Math.Nat.{mod-eq_of_lt}
 use Rattle.std.proofs.lemmas.Bool.{eqb-true}
@@ -84,7 +85,8 @@ unfolding word_at
 has-root m pl il ph ih r fits = word-bytes r fits
 
 -- bytes with these words and of the attribute's version say it
-spells-by : (bytes : List ℕ) (a : Attribute) (m pl il ph ih : ℕ) → AreWords a m pl il ph ih → HasWords bytes m pl il ph ih → IsVersion2 bytes a ⊎ IsVersion3 bytes a → high_in a.version ph ≡ ph → high_in a.version ih ≡ ih → Spells bytes a
+spells-by : (bytes : List ℕ) (a : Attribute) (m pl il ph ih : ℕ) → AreWords a m pl il ph ih → HasWords bytes m pl il ph ih
+    → IsVersion2 bytes a ⊎ IsVersion3 bytes a → high_in a.version ph ≡ ph → high_in a.version ih ≡ ih → Spells bytes a
 spells-by bytes a m pl il ph ih are has version ph_all ih_all = record {
   version = inr version;
   effective = effective a.version a.effective m are.magic ∙ ap (λ x. has_bit x 0) (sym has.magic);
@@ -101,7 +103,8 @@ written-2 a m pl il ph ih are version root =
       root = root;
     })) (ap (λ v. high_in v ph) version) (ap (λ v. high_in v ih) version)
 
-pub written-3 : (a : Attribute) (m pl il ph ih : ℕ) → AreWords a m pl il ph ih → a.version ≡ 3 → a.root < 2 ^ 32 → Spells (bytes_of m pl il ph ih (little_bytes 4 a.root)) a
+pub written-3 : (a : Attribute) (m pl il ph ih : ℕ) → AreWords a m pl il ph ih → a.version ≡ 3 → a.root < 2 ^ 32
+    → Spells (bytes_of m pl il ph ih (little_bytes 4 a.root)) a
 written-3 a m pl il ph ih are version fits =
     spells-by _ a m pl il ph ih are (has-words a m pl il ph ih _ are) (inr (record {
       size = refl;
@@ -141,7 +144,8 @@ in_one_word low high s is small = record {
   others = is.others;
 }
 
-pub written-1 : (a : Attribute) (m pl il ph ih : ℕ) → AreWords a m pl il ph ih → a.version ≡ 1 → a.root ≡ 0 → a.perm < 2 ^ 32 → a.inh < 2 ^ 32 → Spells (first_bytes_of m pl il) a
+pub written-1 : (a : Attribute) (m pl il ph ih : ℕ) → AreWords a m pl il ph ih → a.version ≡ 1 → a.root ≡ 0 → a.perm < 2 ^ 32 → a.inh < 2 ^ 32
+    → Spells (first_bytes_of m pl il) a
 written-1 a m pl il ph ih are version root low_perm low_inh =
     let has = has-first_words a m pl il ph ih are in
     record {

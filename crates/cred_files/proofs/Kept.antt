@@ -5,7 +5,7 @@ use Rattle.std.specs.Map.{keys_of, lookup, remove_entry}
 use Rattle.std.specs.Option.{option_map}
 use Rattle.std.proofs.lemmas.List.{length-map}
 use Rattle.cred_ids.specs.Limits.{OPEN_FILES}
-use Rattle.cred_files.specs.declared.file.File.{File}
+use Rattle.cred_files.specs.declared.open_file.File.{File}
 use Rattle.cred_files.specs.Open.{AreOpen, file_as, file_under, open_files, descriptor_place, Closes}
 use Rattle.cred_files.proofs.ByKey.{keys-things, find-things, not_there, no_place, added, taken}
 

@@ -6,7 +6,7 @@ use Rattle.std.specs.declared.option.Option.{Option}
 use Rattle.std.specs.List.{IsDistinct}
 use Rattle.cred_ids.specs.Limits.{OPEN_FILES}
 use Rattle.cred_model.specs.State.{OpenFile}
-use Rattle.cred_files.specs.declared.file.File.{File}
+use Rattle.cred_files.specs.declared.open_file.File.{File}
 
 -- What is true of the open files at all times.
 pub record AreOpen (files : List OpenFile) : Type 0 where

@@ -1,11 +1,11 @@
 //! The table of open files.
 ghost use Rattle.std.specs.Prelude.{◌≡◌, ◌<◌, not, nat_lt, is_some, [], ◌∷◌, ◌++◌, length, None};
-ghost use Rattle.std.specs.Prelude.{IfOk, MatchOption, OnOk, OnErr};
+ghost use Rattle.std.specs.Prelude.{MatchOption, OnOk, OnErr};
 ghost use Rattle.std.specs.Option.{option_map};
 ghost use Rattle.cred_ids.specs.Limits.{OPEN_FILES};
 ghost use Rattle.cred_files.specs.Open.{AreOpen, file_as, file_under, descriptor_place, Closes};
 
-use crate::file::File;
+use crate::open_file::File;
 use cred_ids::{NoMemory, limits};
 use indexmap::IndexMap;
 use std::alloc::Global;

@@ -1,9 +1,10 @@
-//! The open files of the system. Each keeps the number of the credential that it was opened by, as
-//! `f_cred` of Linux's `struct file` does (Documentation/security/credentials.rst). Files are
-//! found by their descriptors: none is searched for.
+//! The open files of the system, by their descriptors. Read it as part of `cred_tables`.
+//!
+//! Each keeps the number of the credential that it was opened by, as `f_cred` of Linux's `struct
+//! file` does (Documentation/security/credentials.rst). None is searched for.
 #![tactic(auto)]
 
-mod file;
 pub mod files;
+mod open_file;
 
 pub use files::Files;

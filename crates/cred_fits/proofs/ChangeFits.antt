@@ -1,5 +1,6 @@
 -- What changes make of a credential, and gain, is in range.
-use Rattle.std.proofs.Common.{◌≡◌, ℕ, ◌-◌, ◌<◌, ◌≤◌, ◌^◌, ◌==◌, not, nat_le, nat_lt, Bool, true, false, cond, List, Option, Some, None, Result, Ok, Err, refl, arith}
+use Rattle.std.proofs.Common.{◌≡◌, ℕ, ◌-◌, ◌<◌, ◌≤◌, ◌^◌, ◌==◌, not, nat_le, nat_lt, Bool, true, false, cond, List, Option, Some, None, Result, Ok, Err, refl}
+use Rattle.std.proofs.Common.{arith}
 use Rattle.std.specs.Option.{IfSome}
 use Rattle.std.proofs.lemmas.Bool.Decides.{nat_tests}
 use Rattle.std.proofs.lemmas.List.Elements.{All-nil}
@@ -19,10 +20,12 @@ use Rattle.cred_record.specs.declared.adj_call.AdjCall.TheVariants as adj
 use Rattle.cred_record.specs.declared.refusal.Denial.{Denial}
 use Rattle.cred_record.specs.declared.refusal.Denial.TheVariants.{Perm, Invalid}
 use Rattle.cred_rules.specs.Access.{access_credential}
-use Rattle.cred_rules.specs.Adjust.{LAST_BITS, is_no_cap, may_capset, may_raise, may_set_bits, adjust, after_capset, after_bound_drop, after_amb_raise, after_amb_lower, after_bits, after_keep_caps, after_no_new_privs}
+use Rattle.cred_rules.specs.Adjust.{LAST_BITS, is_no_cap, may_capset, may_raise, may_set_bits, adjust, after_capset, after_bound_drop, after_amb_raise}
+use Rattle.cred_rules.specs.Adjust.{after_amb_lower, after_bits, after_keep_caps, after_no_new_privs}
 use Rattle.cred_rules.specs.Attribute.{Attribute}
 use Rattle.cred_rules.specs.Exec.NoExec.{MayNotExecute, SpellsNothing, GivesTooLittle}
-use Rattle.cred_rules.specs.Exec.{Executed, NoExec, FileSets, sets_user, sets_group, sets_of, sets_taken, given_by, is_privileged, amb_after, perm_after, may_execute, attribute_for, gives_all, is_by_root, gained, gained_by_file, after_exec, gains_of, executed_by, exec}
+use Rattle.cred_rules.specs.Exec.{Executed, NoExec, FileSets, sets_user, sets_group, sets_of, sets_taken, given_by, is_privileged, amb_after, perm_after}
+use Rattle.cred_rules.specs.Exec.{may_execute, attribute_for, gives_all, is_by_root, gained, gained_by_file, after_exec, gains_of, executed_by, exec}
 use Rattle.cred_rules.specs.SetFs.{old_fs}
 use Rattle.cred_event.specs.declared.answer.Answer.{Answer}
 use Rattle.cred_event.specs.declared.event.Change.{Change}
@@ -96,7 +99,9 @@ amb_raise_fits : (c : Credential) (n : ℕ) → FitsCred c → Holds FitsCred (a
 unfolding after_amb_raise
 amb_raise_fits c n old = by (is_no_cap n) refl
   where
-    by : (no : Bool) → is_no_cap n ≡ no → Holds FitsCred (let r : Result Credential Denial = cond no (Err Invalid) (cond (not (may_raise c n)) (Err Perm) (Ok (record c { amb = with c.amb n }))) in r)
+    by : (no : Bool) → is_no_cap n ≡ no
+        → Holds FitsCred
+        (let r : Result Credential Denial = cond no (Err Invalid) (cond (not (may_raise c n)) (Err Perm) (Ok (record c { amb = with c.amb n }))) in r)
     by true is = tt
     by false is =
         tested (not (may_raise c n)) Perm _
@@ -114,7 +119,8 @@ bits_fit : (c : Credential) (n : ℕ) → FitsCred c → Holds FitsCred (after_b
 unfolding after_bits
 bits_fit c n old = by (may_set_bits c n) refl (of_bits c n)
   where
-    by : (may : Bool) → may_set_bits c n ≡ may → Changes (nat_le n LAST_BITS) true false (let r : Result Credential Denial = cond (not may) (Err Perm) (Ok (record c { bits = n })) in r)
+    by : (may : Bool) → may_set_bits c n ≡ may
+        → Changes (nat_le n LAST_BITS) true false (let r : Result Credential Denial = cond (not may) (Err Perm) (Ok (record c { bits = n })) in r)
         → Holds FitsCred (let r : Result Credential Denial = cond (not may) (Err Perm) (Ok (record c { bits = n })) in r)
     by true is within = adjusted c _ old refl refl refl old.perm old.inh old.eff old.bound old.amb (few_bits n within)
     by false is within = tt
@@ -186,11 +192,14 @@ exec_fits : (c : Credential) (f : File) (chain : List ℕ) → FitsCred c → Fi
 unfolding exec
 exec_fits c f chain old file = by (may_execute c f) (attribute_for c f chain)
   where
-    made : (a : Option Attribute) (b : Bool) → Holds FitsExecuted (let r : Result Executed NoExec = cond b (Ok (record { cred = after_exec c f a; gains = gains_of c f a })) (Err GivesTooLittle) in r)
+    made : (a : Option Attribute) (b : Bool)
+        → Holds FitsExecuted
+        (let r : Result Executed NoExec = cond b (Ok (record { cred = after_exec c f a; gains = gains_of c f a })) (Err GivesTooLittle) in r)
     made a true = (exec_cred_fits c f a old file, gains_fit c f a old)
     made a false = tt
 
-    by : (b : Bool) (r : Result (Option Attribute) NoExec) → Holds FitsExecuted (let e : Result Executed NoExec = cond b (executed_by c f r) (Err MayNotExecute) in e)
+    by : (b : Bool) (r : Result (Option Attribute) NoExec)
+        → Holds FitsExecuted (let e : Result Executed NoExec = cond b (executed_by c f r) (Err MayNotExecute) in e)
     by false r = tt
     by true (Ok a) = made a (gives_all c a)
     by true (Err e) = tt

@@ -23,7 +23,8 @@ use Rattle.cred_record.specs.declared.refusal.Denial.{Denial}
 use Rattle.cred_record.specs.declared.refusal.Denial.TheVariants.{Perm, Invalid}
 use Rattle.cred_rules.specs.Fix.{clears_permitted, loses_root, leaves_root, enters_root, fixed, with_user_ids}
 use Rattle.cred_rules.specs.SetFs.{FILE_CAPS, own_ids, fs_after, fs_effective, set_fs}
-use Rattle.cred_rules.specs.SetId.{id_or, is_given, is_other, permitted, after_setuid, after_setreuid, after_setresuid, after_seteuid, after_setgroups, for_users, for_groups, set_id}
+use Rattle.cred_rules.specs.SetId.{id_or, is_given, is_other, permitted, after_setuid, after_setreuid, after_setresuid, after_seteuid, after_setgroups}
+use Rattle.cred_rules.specs.SetId.{for_users, for_groups, set_id}
 use Rattle.cred_model.proofs.Rising.{All-in_order}
 use Rattle.cred_reader.specs.Fits.{IsArg, FitsCall, FitsIds}
 use Rattle.cred_reader.proofs.Spelled.{Holds}
@@ -123,7 +124,8 @@ with_ids c new old ids = record {
 
 user_ids_fit : (c : Credential) (new : Ids4) → FitsCred c → FitsIds new → FitsCred (with_user_ids c new)
 unfolding with_user_ids
-user_ids_fit c new old ids = either FitsCred (is_set c.bits NoSetuidFixup) (record c { uid = new }) (fixed c new) (with_ids c new old ids) (fixed_fits c new old ids)
+user_ids_fit c new old ids =
+    either FitsCred (is_set c.bits NoSetuidFixup) (record c { uid = new }) (fixed c new) (with_ids c new old ids) (fixed_fits c new old ids)
 
 users : (c : Credential) (r : Result Ids4 Denial) → FitsCred c → Holds FitsIds r → Holds FitsCred (for_users c r)
 users c (Ok ids) old h = user_ids_fit c ids old h
@@ -160,7 +162,8 @@ setgroups_fits c list old h = by (not (capable c SETGID)) (nat_lt GROUP_LIMIT (l
       bits = old.bits;
     }
 
-    by : (denied many : Bool) → Holds FitsCred (let r : Result Credential Denial = cond denied (Err Perm) (cond many (Err Invalid) (Ok (record c { groups = in_order list }))) in r)
+    by : (denied many : Bool)
+        → Holds FitsCred (let r : Result Credential Denial = cond denied (Err Perm) (cond many (Err Invalid) (Ok (record c { groups = in_order list }))) in r)
     by true many = tt
     by false true = tt
     by false false = made

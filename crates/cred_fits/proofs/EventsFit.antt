@@ -1,5 +1,6 @@
 -- The events of a script's journals fit it.
-use Rattle.std.proofs.Common.{◌≡◌, ℕ, ◌+◌, ◌*◌, ◌<◌, ◌≤◌, ◌==◌, ◌&&◌, not, Bool, true, false, cond, is_some, List, [], ◌∷◌, length, take, fold, slice_get, Option, Some, None, Ok, refl, sym, ◌∙◌, subst, arith}
+use Rattle.std.proofs.Common.{◌≡◌, ℕ, ◌+◌, ◌*◌, ◌<◌, ◌≤◌, ◌==◌, ◌&&◌, not, Bool, true, false, cond, is_some, List, [], ◌∷◌, length, take, fold, slice_get}
+use Rattle.std.proofs.Common.{Option, Some, None, Ok, refl, sym, ◌∙◌, subst, arith}
 use Rattle.std.specs.List.{All}
 use Rattle.std.specs.Option.{IfSome, option_map, option_map_or, option_and_then}
 use Rattle.std.proofs.lemmas.List.Elements.{All-head, All-tail, All-weaker}
@@ -128,7 +129,9 @@ first_fits script these journal number (line ∷ lines) few fits of =
   where
     by : (b : Bool) (o : Option Event) → IfSome o (IsOfScript script number)
         → IfSome (first_due these journal (number + 1) lines) (λ due. IsOfScript script due.line due.event)
-        → IfSome (cond b (option_map_or (λ event. Some (record { line = number; event = event })) o (first_due these journal (number + 1) lines)) (first_due these journal (number + 1) lines))
+        → IfSome
+        (cond b (option_map_or (λ event. Some (record { line = number; event = event })) o (first_due these journal (number + 1) lines))
+        (first_due these journal (number + 1) lines))
         (λ due. IsOfScript script due.line due.event)
     by true None h rest = rest
     by true (Some event) h rest = h

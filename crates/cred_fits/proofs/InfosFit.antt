@@ -13,12 +13,12 @@ use Rattle.cred_record.specs.declared.refusal.Denial.{Denial}
 use Rattle.cred_record.specs.declared.refusal.Denial.TheVariants.{Perm, Invalid}
 use Rattle.cred_rules.specs.Access.{in_group}
 use Rattle.cred_rules.specs.Files.{chosen, may_chown, strips, stripped, chowned, chown, may_chmod, given_mode, chmod, is_attr, set_attr}
-use Rattle.cred_rules.specs.Modes.{SET_USER, SET_GROUP, GROUP_EXECUTE, has_any, without}
+use Rattle.cred_rules.specs.Modes.{SET_USER, SET_GROUP, GROUP_EXECUTE, has_any, without_bits}
 use Rattle.cred_caps.specs.Numbers.{FSETID, SETFCAP}
 use Rattle.cred_event.specs.declared.answer.Answer.{Answer}
 use Rattle.cred_event.specs.declared.event.Event.{Event}
 use Rattle.cred_event.specs.declared.event.Event.TheVariants as event
-use Rattle.cred_model.specs.Changing.{changed_by}
+use Rattle.cred_model.specs.FileChanges.{changed_by}
 use Rattle.cred_model.specs.Script.{Script, NamedFile}
 use Rattle.cred_model.specs.State.{State, opening}
 use Rattle.cred_model.specs.Step.{step}
@@ -45,7 +45,7 @@ id_chosen old (Set id) was fits = fits
 mode_stripped : (mode : ℕ) → IsMode mode → IsMode (stripped mode)
 mode_stripped mode small = by (has_any mode GROUP_EXECUTE)
   where
-    by : (b : Bool) → IsMode (cond b (without (without mode SET_USER) SET_GROUP) (without mode SET_USER))
+    by : (b : Bool) → IsMode (cond b (without_bits (without_bits mode SET_USER) SET_GROUP) (without_bits mode SET_USER))
     by true = fewer_bits _ _ (fewer_bits mode _ small)
     by false = fewer_bits mode _ small
 
@@ -64,7 +64,7 @@ chowned_fits f owner group was o g = record {
 given_fits : (c : Credential) (f : File) (mode : ℕ) → IsMode mode → IsMode (given_mode c f mode)
 given_fits c f mode small = by (capable c FSETID) (in_group c f.group)
   where
-    by : (able member : Bool) → IsMode (cond (able || member) mode (without mode SET_GROUP))
+    by : (able member : Bool) → IsMode (cond (able || member) mode (without_bits mode SET_GROUP))
     by true member = small
     by false true = small
     by false false = fewer_bits mode _ small

@@ -5,15 +5,16 @@ use Rattle.cred_spelling.specs.declared.reason.Reason.{Reason}
 use Rattle.cred_spelling.specs.declared.reason.Reason.TheVariants.{Word, Byte}
 use Rattle.cred_spelling.specs.Lines.{is_printable}
 use Rattle.cred_spelling.specs.Names.{form_of}
-use Rattle.cred_spelling.specs.Words.{◌>>=◌, line_words, is_comment}
-use Rattle.cred_forms.specs.declared.forms.Parsed.{Parsed}
-use Rattle.cred_forms.specs.declared.forms.Parsed.TheVariants.{Empty}
-use Rattle.cred_forms.specs.Forms.{parse_form}
+use Rattle.cred_spelling.specs.Words.{line_words, is_comment}
+use Rattle.cred_grammar.specs.declared.forms.Parsed.{Parsed}
+use Rattle.cred_grammar.specs.declared.forms.Parsed.TheVariants.{Empty}
+use Rattle.cred_grammar.specs.Forms.{parse_form}
 use Rattle.cred_grammar.specs.Grammar.{parse_full, parse_words, parse_line}
 use Rattle.cred_grammar.specs.Reading.{Reading, admits}
 use Rattle.cred_grammar.specs.Sound.{IsParsed}
 use Rattle.cred_grammar.proofs.Own.{form_sound}
 use Rattle.cred_reader.proofs.Spelled as spelled
+use Rattle.cred_ids.specs.Tests.{◌>>=◌}
 
 sound_form : (reading : Reading) (form : Form) (words : List (List ℕ)) (r : Result Parsed Reason) → parse_form reading.files form words ≡ r
     → spelled.Holds (IsParsed reading) (r >>= λ line. admits reading line >>= λ fits. Ok line)
@@ -29,7 +30,8 @@ sound_full : (reading : Reading) (first : List ℕ) (words : List (List ℕ)) �
 unfolding parse_full
 sound_full reading first words = by (form_of first)
   where
-    by : (o : Option Form) → spelled.Holds (IsParsed reading) (ok_or o Word >>= λ form. parse_form reading.files form words >>= λ line. admits reading line >>= λ fits. Ok line)
+    by : (o : Option Form)
+        → spelled.Holds (IsParsed reading) (ok_or o Word >>= λ form. parse_form reading.files form words >>= λ line. admits reading line >>= λ fits. Ok line)
     by (Some form) = sound_form reading form words (parse_form reading.files form words) refl
     by None = tt
 

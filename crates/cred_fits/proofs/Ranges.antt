@@ -5,10 +5,11 @@ use Rattle.std.specs.Option.{IfSome, option_and_then}
 use Rattle.std.proofs.lemmas.Bool.Decides.{nat_tests}
 use Rattle.std.proofs.lemmas.Option.{slice_get_within}
 use Rattle.cred_ids.specs.Limits.{DEPTH, SLOTS}
+use Rattle.cred_ids.specs.Tests.{◌>>=◌}
 use Rattle.cred_event.specs.declared.answer.Answer.{Answer}
 use Rattle.cred_event.specs.declared.answer.Answer.TheVariants as answer
 use Rattle.cred_model.specs.Casts.{not_busy}
-use Rattle.cred_model.specs.Moves.{◌>>=◌, fewer_or, not_overridden}
+use Rattle.cred_model.specs.Moves.{fewer_or, not_overridden}
 use Rattle.cred_model.specs.State.{State, SealedCred, Task, Broadcast, Prepared, Changed, Numbered, numbered}
 use Rattle.cred_model.specs.Step.{outcome}
 use Rattle.cred_model.proofs.Lists.{All-at}

@@ -5,7 +5,7 @@ use Rattle.cred_spelling.specs.Spellings.{bytes_of}
 use Rattle.cred_capdata.specs.declared.data.CapData.{CapData}
 use Rattle.cred_capdata.specs.Record.{data_of}
 use Rattle.cred_capdata.proofs.DataOf.{spelled}
-use Rattle.cred_forms.specs.Records.{own_data, record_of}
+use Rattle.cred_grammar.specs.Records.{own_data, record_of}
 use Rattle.cred_reader.proofs.Spelled.{HoldsSome, OfAll}
 use Rattle.cred_reader.proofs.KindsFit.{if_holds, then_some}
 

@@ -1,10 +1,12 @@
 -- Each event is given one of the answers of its row.
-use Rattle.std.proofs.Common.{◌≡◌, ℕ, ◌-◌, ◌==◌, ◌||◌, nat_lt, Bool, true, false, cond, List, [], ◌∷◌, length, slice_get, slice_set, not, Option, Some, None, Result, Ok, Err, ok_or, refl, ap, arith}
+use Rattle.std.proofs.Common.{◌≡◌, ℕ, ◌-◌, ◌==◌, ◌||◌, nat_lt, Bool, true, false, cond, List, [], ◌∷◌, length, slice_get, slice_set, not, Option, Some, None}
+use Rattle.std.proofs.Common.{Result, Ok, Err, ok_or, refl, ap, arith}
 use Rattle.std.specs.List.{find, position, count_by}
 use Rattle.std.proofs.lemmas.Bool.Decides.{nat_tests}
 use Rattle.std.specs.Option.{option_map_or, option_and_then}
 use Rattle.cred_ids.specs.declared.arg.Arg.{Arg}
 use Rattle.cred_ids.specs.Limits.{TASKS, OPEN_FILES, HOLDS, PREPARED, DEPTH}
+use Rattle.cred_ids.specs.Tests.{◌>>=◌}
 use Rattle.cred_caps.specs.Numbers.{LAST, CHOWN, SETFCAP}
 use Rattle.cred_caps.specs.Caps.{Caps, has}
 use Rattle.cred_record.specs.Credential.{Credential, capable, first_credential}
@@ -33,18 +35,23 @@ use Rattle.cred_event.specs.declared.event.Mode.{Mode}
 use Rattle.cred_event.specs.declared.event.Query.{Query}
 use Rattle.cred_event.specs.declared.event.Query.TheVariants as query
 use Rattle.cred_event.specs.declared.event.Side.{Side}
-use Rattle.cred_model.specs.Answers.{is_ok, flag, checked, reply}
+use Rattle.cred_event.specs.Answers.{is_ok}
+use Rattle.cred_model.specs.Answers.{flag, checked, reply}
 use Rattle.cred_model.specs.Change.{Made, by_rule, made_by_rule, made_by_execve, made_by_exec, by_change}
 use Rattle.cred_model.specs.Casts.{others_of, with_cast, waits_no_more}
 use Rattle.cred_model.specs.Dumpable.{differs, renewed, set_flag, flags_begun, flags_committed}
 use Rattle.cred_model.specs.Ends.{ended, is_thread_of}
-use Rattle.cred_model.specs.Moves.{◌>>=◌, in_slot, table_full, first_task, created, replaced}
+use Rattle.cred_model.specs.Moves.{in_slot, table_full, first_task, created, replaced}
 use Rattle.cred_model.specs.Moves.{preparing, altered, committed, given_up}
 use Rattle.cred_model.specs.Named.{query_files, change_files}
 use Rattle.cred_model.specs.Script.{Script, chain_of, root_of}
 use Rattle.cred_model.specs.Slots.{swept_if_full, free}
-use Rattle.cred_model.specs.State.{State, Task, Numbered, Prepared, Changed, Broadcast, numbered, task_of, cast_of, cast_in, begun_by, open_of, hold_of, prepared_of, credential_of, opener_of, held_by, info_of}
-use Rattle.cred_model.specs.Step.{outcome, by_init, take_hold, by_take, by_take_file, by_release, by_ask, by_signal, by_prepare, by_alter, for_task, try_commit, ends_with, casts_after, committed_by, commit_answer, by_commit, by_abort, for_access, override_held, override_prepared, by_override, by_revert, by_begin, aborted, follow, by_act, by_open, by_close, by_spawn, by_fork, by_exit, by_dumpable, by_dumped, by_ptrace, by_file, by_stat, by_raw}
+use Rattle.cred_model.specs.State.{State, Task, Numbered, Prepared, Changed, Broadcast, numbered, task_of, cast_of, cast_in, begun_by, open_of, hold_of}
+use Rattle.cred_model.specs.State.{prepared_of, credential_of, opener_of, held_by, info_of}
+use Rattle.cred_model.specs.Step.{outcome, by_init, take_hold, by_take, by_take_file, by_release, by_ask, by_signal, by_prepare, by_alter, for_task, try_commit}
+use Rattle.cred_model.specs.Step.{ends_with, casts_after, committed_by, commit_answer, by_commit, by_abort, for_access, override_held, override_prepared}
+use Rattle.cred_model.specs.Step.{by_override, by_revert, by_begin, aborted, follow, by_act, by_open, by_close, by_spawn, by_fork, by_exit, by_dumpable}
+use Rattle.cred_model.specs.Step.{by_dumped, by_ptrace, by_file, by_stat, by_raw}
 use Rattle.cred_laws.proofs.Cases.{some_case, none_case, test_case, own_case, idle_case}
 use Rattle.cred_answers.specs.CallRows as call_rows
 use Rattle.cred_answers.specs.Rows as rows
@@ -75,7 +82,8 @@ of_init s task process user group ns root =
     none_case Q (task_of s task) _ _ refl (λ new.
     test_case Q (nat_lt (length s.tasks) TASKS) _ _ refl
     (slot_tells rows.init_row s table_full
-    (λ t slot. (answer.Sealed (length t.creds) slot, record (created t (first_task task process (length t.creds)) (first_credential user group ns root) slot) { dumpable = flags_begun t process }))
+    (λ t slot.
+    (answer.Sealed (length t.creds) slot, record (created t (first_task task process (length t.creds)) (first_credential user group ns root) slot) { dumpable = flags_begun t process }))
     (λ t. refl) (λ t slot. refl))))
 
 of_hold : (row : Answer → Bool) (s : State) (label : ℕ) (taken : Numbered) → row (answer.Exists named.Label label) ≡ true
@@ -103,7 +111,8 @@ of_release s label =
 of_flag : (set : Caps) (cap : ℕ) → rows.cap_row cap (flag (read_in set cap)) ≡ true
 of_flag set cap = by (nat_lt LAST cap)
   where
-    by : (above : Bool) → cond above (rows.no_cap_row (flag (cond above None (Some (has set cap))))) (rows.capable_row (flag (cond above None (Some (has set cap))))) ≡ true
+    by : (above : Bool)
+        → cond above (rows.no_cap_row (flag (cond above None (Some (has set cap))))) (rows.capable_row (flag (cond above None (Some (has set cap))))) ≡ true
     by true = refl
     by false = refl
 
@@ -195,26 +204,26 @@ of_executed : (file : Option File) (chain : List ℕ) (c : Credential) → IsOfR
 of_executed None chain c = refl
 of_executed (Some file) chain c = by_exec (exec c file chain)
 
-of_change : (file : Option File) (chain : List ℕ) (c : Credential) (to : Change) → IsOfRow (rows.may_change to) (by_change file chain c to)
+of_change : (file : Option File) (chain : List ℕ) (c : Credential) (to : Change) → IsOfRow (rows.may_answer_change to) (by_change file chain c to)
 of_change file chain c (change.SetFs kind id) = refl
 of_change file chain c (change.Adjust call) = by_adjust call (adjust c call) (of_adjust c call)
 of_change file chain c (change.Exec place) = of_executed file chain c
 of_change file chain c change.Access = refl
 
-none_prepared : (to : Change) (label : ℕ) → rows.may_change to (answer.NoPrepared label) ≡ true
+none_prepared : (to : Change) (label : ℕ) → rows.may_answer_change to (answer.NoPrepared label) ≡ true
 none_prepared (change.SetFs kind id) label = refl
 none_prepared (change.Adjust call) label = refl
 none_prepared (change.Exec place) label = refl
 none_prepared change.Access label = refl
 
-of_altered : (s : State) (label : ℕ) (to : Change) (r : Result Made Answer) → IsOfRow (rows.may_change to) r
-    → Tells (rows.may_change to) s (r >>= λ made. Ok (made.answer, altered s label (record { change = to; cred = made.cred; gains = made.gains })))
+of_altered : (s : State) (label : ℕ) (to : Change) (r : Result Made Answer) → IsOfRow (rows.may_answer_change to) r
+    → Tells (rows.may_answer_change to) s (r >>= λ made. Ok (made.answer, altered s label (record { change = to; cred = made.cred; gains = made.gains })))
 of_altered s label to (Ok made) h = h
 of_altered s label to (Err refused) h = h
 
-of_alter : (script : Script) (s : State) (label : ℕ) (to : Change) → Tells (rows.may_change to) s (by_alter script s label to)
+of_alter : (script : Script) (s : State) (label : ℕ) (to : Change) → Tells (rows.may_answer_change to) s (by_alter script s label to)
 of_alter script s label to =
-    let Q = Tells (rows.may_change to) s in
+    let Q = Tells (rows.may_answer_change to) s in
     some_case Q (prepared_of s label) _ _ (none_prepared to label) (λ p is.
     some_case Q (numbered s.creds p.base) _ _ (none_prepared to label) (λ base is.
     of_altered s label to _ (of_change (info_of s.infos (change_files to)) (chain_of script base.cred.ns) base.cred to)))
@@ -234,8 +243,10 @@ IsCommitted made = rows.commit_row made.0 ≡ true
 tried : (s : State) (place : ℕ) (p : Prepared) (owner : Task) (last : Changed) → IsCommitted (try_commit s place p owner last)
 tried s place p owner last =
     let ends = ends_with last.change owner in
-    elim (owner.current == p.base) as (λ b. IsCommitted (cond b
-    (commit_answer last (length s.creds) p.slot (count_by ends s.tasks), record (casts_after last.change owner (committed (ended ends s) place p owner.current last.cred)) { dumpable = flags_committed s owner last })
+    elim (owner.current == p.base) as (λ b. IsCommitted (cond b (
+      commit_answer last (length s.creds) p.slot (count_by ends s.tasks),
+      record (casts_after last.change owner (committed (ended ends s) place p owner.current last.cred)) { dumpable = flags_committed s owner last },
+    )
     (answer.Stale p.base owner.current, given_up s place p))) [
       | true ↦ of_committed last.change last.gains (length s.creds) p.slot (count_by ends s.tasks)
       | false ↦ refl
@@ -306,7 +317,8 @@ of_raw s task call =
     own_case Q owner _ (λ depth. refl)
     (of_raw_made s call (set_id old.cred call) _ (of_call old.cred call) (λ made valid.
     slot_tells row s table_full
-    (λ t slot. (answer.Sealed (length t.creds) slot, record (replaced t task old.number made slot) { dumpable = renewed t.dumpable owner.process (differs old.cred made) }))
+    (λ t slot.
+    (answer.Sealed (length t.creds) slot, record (replaced t task old.number made slot) { dumpable = renewed t.dumpable owner.process (differs old.cred made) }))
     (λ t. ap not valid) (λ t slot. ap not valid))))))
 
 of_begin : (s : State) (line task : ℕ) (call : IdCall) → Tells (call_rows.begin_row call) s (by_begin s line task call)
@@ -322,15 +334,18 @@ of_begin s line task call =
     let others = others_of owner s.tasks in
     let cast : Broadcast = record { number = line; process = owner.process; caller = task; call = call; waiting = others } in
     slot_tells row s table_full
-    (λ t slot. (answer.Began (length t.creds) slot (length others), record (replaced t task old.number made slot) { casts = with_cast t.casts cast; dumpable = renewed t.dumpable owner.process (differs old.cred made) }))
+    (λ t slot.
+    (answer.Began (length t.creds) slot (length others), record (replaced t task old.number made slot) { casts = with_cast t.casts cast; dumpable = renewed t.dumpable owner.process (differs old.cred made) }))
     (λ t. ap not valid) (λ t slot. ap not valid)))))))
 
-followed : (s : State) (cast : Broadcast) (task : ℕ) (owner : Task) (old : Numbered) (r : Result Credential Answer) → rows.act_row (follow s cast task owner old r).0 ≡ true
+followed : (s : State) (cast : Broadcast) (task : ℕ) (owner : Task) (old : Numbered) (r : Result Credential Answer)
+    → rows.act_row (follow s cast task owner old r).0 ≡ true
 followed s cast task owner old (Err refused) = refl
 followed s cast task owner old (Ok made) =
     slot_tells rows.act_row s
     (λ t. (answer.Aborted task cause.Full, aborted cast t))
-    (λ t slot. (answer.Acted task (length t.creds) slot (length cast.waiting - 1), record (replaced t task old.number made slot) { casts = waits_no_more task t.casts; dumpable = renewed t.dumpable owner.process (differs old.cred made) }))
+    (λ t slot.
+    (answer.Acted task (length t.creds) slot (length cast.waiting - 1), record (replaced t task old.number made slot) { casts = waits_no_more task t.casts; dumpable = renewed t.dumpable owner.process (differs old.cred made) }))
     (λ t. refl) (λ t slot. refl)
 
 of_act : (s : State) (number : ℕ) → Tells rows.act_row s (by_act s number)

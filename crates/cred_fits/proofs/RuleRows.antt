@@ -18,8 +18,10 @@ use Rattle.cred_record.specs.declared.id_call.IdCall.{IdCall}
 use Rattle.cred_record.specs.declared.id_call.IdCall.TheVariants as call
 use Rattle.cred_record.specs.declared.refusal.Denial.{Denial}
 use Rattle.cred_record.specs.declared.refusal.Denial.TheVariants.{Perm, Invalid}
-use Rattle.cred_rules.specs.Adjust.{LAST_BITS, FLAGS, is_no_cap, may_capset, may_raise, keeps_lock, may_set_bits, adjust, after_capset, after_bound_drop, after_amb_raise, after_amb_lower, after_bits, after_keep_caps, after_no_new_privs}
-use Rattle.cred_rules.specs.SetId.{is_given, permitted, after_setuid, after_setreuid, after_setresuid, after_seteuid, after_setgroups, for_users, for_groups, set_id}
+use Rattle.cred_rules.specs.Adjust.{LAST_BITS, FLAGS, is_no_cap, may_capset, may_raise, keeps_lock, may_set_bits, adjust, after_capset, after_bound_drop}
+use Rattle.cred_rules.specs.Adjust.{after_amb_raise, after_amb_lower, after_bits, after_keep_caps, after_no_new_privs}
+use Rattle.cred_rules.specs.SetId.{is_given, permitted, after_setuid, after_setreuid, after_setresuid, after_seteuid, after_setgroups, for_users, for_groups}
+use Rattle.cred_rules.specs.SetId.{set_id}
 use Rattle.cred_answers.specs.CallRows.{is_invalid, may_be_denied, is_wrong, may_be_refused, may_be_done}
 
 -- ---- id calls
@@ -64,7 +66,8 @@ of_setgroups : (c : Credential) (groups : List ℕ) → Answers true (nat_lt GRO
 unfolding after_setgroups
 of_setgroups c groups = by (capable c SETGID) (nat_lt GROUP_LIMIT (length groups)) _
   where
-    by : (able many : Bool) (made : Credential) → Answers true many (let r : Result Credential Denial = cond (not able) (Err Perm) (cond many (Err Invalid) (Ok made)) in r)
+    by : (able many : Bool) (made : Credential)
+        → Answers true many (let r : Result Credential Denial = cond (not able) (Err Perm) (cond many (Err Invalid) (Ok made)) in r)
     by true true made = refl
     by true false made = refl
     by false many made = refl
@@ -128,7 +131,8 @@ three true true false h = absurd (h refl)
 three true false c h = absurd (h refl)
 three false b c h = absurd (h refl)
 
-of_capset : (c : Credential) (perm inh eff : Caps) → Changes (is_within eff perm) (not ((perm == 0) && (inh == 0) && (eff == 0))) false (after_capset c perm inh eff)
+of_capset : (c : Credential) (perm inh eff : Caps)
+    → Changes (is_within eff perm) (not ((perm == 0) && (inh == 0) && (eff == 0))) false (after_capset c perm inh eff)
 unfolding after_capset
 of_capset c perm inh eff = by (may_capset c perm inh eff) refl (not ((perm == 0) && (inh == 0) && (eff == 0))) refl _
   where
@@ -149,13 +153,15 @@ of_bound_drop : (c : Credential) (n : ℕ) → Changes (not (is_no_cap n)) true 
 unfolding after_bound_drop
 of_bound_drop c n = by (capable c SETPCAP) (is_no_cap n) _
   where
-    by : (able wrong : Bool) (made : Credential) → Changes (not wrong) true wrong (let r : Result Credential Denial = cond (not able) (Err Perm) (cond wrong (Err Invalid) (Ok made)) in r)
+    by : (able wrong : Bool) (made : Credential)
+        → Changes (not wrong) true wrong (let r : Result Credential Denial = cond (not able) (Err Perm) (cond wrong (Err Invalid) (Ok made)) in r)
     by true true made = refl
     by true false made = refl
     by false wrong made = refl
 
 -- first the number, and then the caller
-of_number : (wrong may : Bool) (made : Credential) → Changes (not wrong) (not wrong) wrong (let r : Result Credential Denial = cond wrong (Err Invalid) (cond may (Err Perm) (Ok made)) in r)
+of_number : (wrong may : Bool) (made : Credential)
+    → Changes (not wrong) (not wrong) wrong (let r : Result Credential Denial = cond wrong (Err Invalid) (cond may (Err Perm) (Ok made)) in r)
 of_number true may made = refl
 of_number false true made = refl
 of_number false false made = refl
@@ -169,7 +175,8 @@ unfolding after_keep_caps
 of_keep_caps c n = of_number (nat_lt 1 n) (is_locked c.bits KeepCaps) _
 
 -- the number alone
-of_number_alone : (wrong : Bool) (made : Credential) → Changes (not wrong) false wrong (let r : Result Credential Denial = cond wrong (Err Invalid) (Ok made) in r)
+of_number_alone : (wrong : Bool) (made : Credential)
+    → Changes (not wrong) false wrong (let r : Result Credential Denial = cond wrong (Err Invalid) (Ok made) in r)
 of_number_alone true made = refl
 of_number_alone false made = refl
 
@@ -194,7 +201,8 @@ pub of_bits : (c : Credential) (n : ℕ) → Changes (nat_le n LAST_BITS) true f
 unfolding after_bits
 of_bits c n = by (may_set_bits c n) refl _
   where
-    by : (may : Bool) → may_set_bits c n ≡ may → (made : Credential) → Changes (nat_le n LAST_BITS) true false (let r : Result Credential Denial = cond (not may) (Err Perm) (Ok made) in r)
+    by : (may : Bool) → may_set_bits c n ≡ may → (made : Credential)
+        → Changes (nat_le n LAST_BITS) true false (let r : Result Credential Denial = cond (not may) (Err Perm) (Ok made) in r)
     by true is made = middle (capable c SETPCAP) (nat_le n LAST_BITS) (list_all (keeps_lock c.bits n) FLAGS) is
     by false is made = refl
 

@@ -1,5 +1,6 @@
 -- What is true of the files and the lines of every script.
-use Rattle.std.proofs.Common.{◌≡◌, ℕ, ◌+◌, ◌<◌, ◌==◌, Bool, true, false, cond, List, [], ◌∷◌, ◌++◌, length, Option, Some, None, Result, Ok, Err, ok_or, refl, subst, length-append, arith}
+use Rattle.std.proofs.Common.{◌≡◌, ℕ, ◌+◌, ◌<◌, ◌==◌, Bool, true, false, cond, List, [], ◌∷◌, ◌++◌, length, Option, Some, None, Result, Ok, Err, ok_or, refl}
+use Rattle.std.proofs.Common.{subst, length-append, arith}
 use Rattle.std.specs.Prelude.{IsTrue, IsSome}
 use Rattle.std.specs.List.{All}
 use Rattle.std.specs.Option.{option_map, option_or}
@@ -16,12 +17,12 @@ use Rattle.cred_spelling.specs.declared.reason.Reason.TheVariants.{Word, Byte}
 use Rattle.cred_spelling.specs.Lines.{lines_of, is_printable}
 use Rattle.cred_spelling.specs.Names.{form_of}
 use Rattle.cred_spelling.specs.Spellings.{is_name}
-use Rattle.cred_spelling.specs.Words.{◌>>=◌, line_words, is_comment}
-use Rattle.cred_forms.specs.declared.forms.Parsed.{Parsed}
-use Rattle.cred_forms.specs.declared.forms.Parsed.TheVariants.{Empty, File, Starts, Lane, Holds}
-use Rattle.cred_forms.specs.declared.forms.Parsed.TheVariants as parsed
+use Rattle.cred_spelling.specs.Words.{line_words, is_comment}
+use Rattle.cred_grammar.specs.declared.forms.Parsed.{Parsed}
+use Rattle.cred_grammar.specs.declared.forms.Parsed.TheVariants.{Empty, File, Starts, Lane, Holds}
+use Rattle.cred_grammar.specs.declared.forms.Parsed.TheVariants as parsed
 use Rattle.cred_script.specs.Files.{file_place}
-use Rattle.cred_forms.specs.Forms.{parse_form}
+use Rattle.cred_grammar.specs.Forms.{parse_form}
 use Rattle.cred_grammar.specs.Grammar.{parse_full, parse_words, parse_line, add_line, at_line, add_lines, script_of}
 use Rattle.cred_grammar.specs.Reading.{Reading, nothing, admits, keep}
 use Rattle.cred_grammar.specs.Reading as reading_of
@@ -32,6 +33,7 @@ use Rattle.cred_reader.proofs.Spelled.{then_holds, ok_or_holds}
 use Rattle.cred_fits.specs.Content.{FitsContent, FitsFile}
 use Rattle.cred_fits.proofs.FormFits.{FitsForm, FitsParsed, form_fits, parse_fits}
 use Rattle.cred_fits.proofs.FilesFit.{AreNamed, none_named, named_more}
+use Rattle.cred_ids.specs.Tests.{◌>>=◌}
 
 -- ---- what a line is parsed as
 
@@ -80,7 +82,8 @@ still_there declared ns number some = rw (find-append (λ ns. ns.number == numbe
 abbrev NamesDeclared : ℕ → List Namespace → Line → Type 0
 NamesDeclared count declared line = IsContentOf count declared line.content
 
-with_ns : (count : ℕ) (declared : List Namespace) (ns : Namespace) (line : Line) → NamesDeclared count declared line → NamesDeclared count (declared ++ ns ∷ []) line
+with_ns : (count : ℕ) (declared : List Namespace) (ns : Namespace) (line : Line) → NamesDeclared count declared line
+    → NamesDeclared count (declared ++ ns ∷ []) line
 with_ns count declared ns line of = record {
   files = of.files;
   namespaces =
@@ -136,7 +139,10 @@ file_more files file namespaces lines old new name info =
       files = named_more files file old.files new name;
       infos = All-push (λ (f : NamedFile). FitsFile f.info) files file old.infos info;
       lines = old.lines;
-      names = rw count (All-weaker (NamesDeclared (length files) namespaces) (NamesDeclared (length files + 1) namespaces) (with_file (length files) namespaces) lines old.names);
+      names =
+          rw count
+          (All-weaker (NamesDeclared (length files) namespaces) (NamesDeclared (length files + 1) namespaces) (with_file (length files) namespaces) lines
+          old.names);
     }
 
 namespace_more : (files : List NamedFile) (namespaces : List Namespace) (ns : Namespace) (lines : List Line) → AreRead files namespaces lines
@@ -145,7 +151,9 @@ namespace_more files namespaces ns lines old = record {
   files = old.files;
   infos = old.infos;
   lines = old.lines;
-  names = All-weaker (NamesDeclared (length files) namespaces) (NamesDeclared (length files) (namespaces ++ ns ∷ [])) (with_ns (length files) namespaces ns) lines old.names;
+  names =
+      All-weaker (NamesDeclared (length files) namespaces) (NamesDeclared (length files) (namespaces ++ ns ∷ [])) (with_ns (length files) namespaces ns) lines
+      old.names;
 }
 
 kept_fits : (reading : Reading) (line : Parsed) → IsRead reading → IsParsed reading line → FitsParsed line → IsRead (keep reading line)
@@ -162,7 +170,8 @@ added : (reading : Reading) (text : List ℕ) → IsRead reading → spelled.Hol
 unfolding add_line
 added reading text old = by (parse_line reading text) refl (line_fits reading text)
   where
-    by : (r : Result Parsed Reason) → parse_line reading text ≡ r → spelled.Holds FitsParsed r → spelled.Holds IsRead (r >>= λ line. let k : Result Reading Reason = Ok (keep reading line) in k)
+    by : (r : Result Parsed Reason) → parse_line reading text ≡ r → spelled.Holds FitsParsed r
+        → spelled.Holds IsRead (r >>= λ line. let k : Result Reading Reason = Ok (keep reading line) in k)
     by (Ok line) is fits = kept_fits reading line old (parsed_sound reading text line is) fits
     by (Err reason) is fits = tt
 
@@ -176,7 +185,8 @@ all_added reading (text ∷ texts) old = by (add_line reading text) (added readi
     by (Err reason) h more = tt
 
 nothing_read : IsRead nothing
-nothing_read = record { files = none_named; infos = All-nil (λ (f : NamedFile). FitsFile f.info); lines = All-nil LineFits; names = All-nil (NamesDeclared 0 []) }
+nothing_read =
+    record { files = none_named; infos = All-nil (λ (f : NamedFile). FitsFile f.info); lines = All-nil LineFits; names = All-nil (NamesDeclared 0 []) }
 
 -- so it is of every script
 pub script_fits : (bytes : List ℕ) (script : Script) → script_of bytes ≡ Ok script → AreRead script.files script.namespaces script.lines

@@ -1,5 +1,6 @@
 -- How many entries a journal may have, and how many credentials it seals.
-use Rattle.std.proofs.Common.{◌≡◌, ◌≢◌, ℕ, zero, suc, ◌+◌, ◌*◌, ◌-◌, ◌<◌, ◌≤◌, ◌==◌, ◌&&◌, not, Bool, true, false, cond, is_some, List, [], ◌∷◌, ◌++◌, length, take, fold, slice_get, Option, Some, None, refl, sym, ap, ◌∙◌, subst, arith}
+use Rattle.std.proofs.Common.{◌≡◌, ◌≢◌, ℕ, zero, suc, ◌+◌, ◌*◌, ◌-◌, ◌<◌, ◌≤◌, ◌==◌, ◌&&◌, not, Bool, true, false, cond, is_some, List, [], ◌∷◌, ◌++◌, length}
+use Rattle.std.proofs.Common.{take, fold, slice_get, Option, Some, None, refl, sym, ap, ◌∙◌, subst, arith}
 use Rattle.std.specs.Option.{IfSome, option_map, option_map_or, option_and_then}
 use Rattle.std.proofs.lemmas.Bool.Decides.{nat_tests}
 use Rattle.std.proofs.lemmas.List.{length_push, take_more}
@@ -26,9 +27,9 @@ use Rattle.cred_laws.specs.Journals.{state_at}
 use Rattle.cred_laws.proofs.States.{step_at}
 use Rattle.cred_sound.proofs.Parts.{CredsChange, SameCreds, Seals, sealed_cred}
 use Rattle.cred_sound.proofs.Events.{changes}
-use Rattle.cred_cursor.specs.Cursor.{left_at, new_waiters, new_waiters_at}
-use Rattle.cred_left.specs.Waiting.{waiting}
-use Rattle.cred_left.proofs.Measure.{step_falls}
+use Rattle.cred_course.specs.Cursor.{left_at, new_waiters, new_waiters_at}
+use Rattle.cred_course.specs.Waiting.{waiting}
+use Rattle.cred_course.proofs.Measure.{step_falls}
 use Rattle.cred_fits.specs.Fitting.{JournalsAreShort}
 
 -- ---- the line of an entry
@@ -60,7 +61,9 @@ due_found these journal first (line ∷ lines) due is =
     by (these line) (next_event journal first line.content) refl is (λ behind. due_found these journal (first + 1) lines due behind)
   where
     by : (b : Bool) (o : Option Event) → next_event journal first line.content ≡ o
-        → cond b (option_map_or (λ event. Some (record { line = first; event = event })) o (first_due these journal (first + 1) lines)) (first_due these journal (first + 1) lines) ≡ Some due
+        → cond b (option_map_or (λ event. Some (record { line = first; event = event })) o (first_due these journal (first + 1) lines))
+        (first_due these journal (first + 1) lines)
+        ≡ Some due
         → (first_due these journal (first + 1) lines ≡ Some due → IsDue journal (first + 1) lines due) → IsDue journal first (line ∷ lines) due
     by true None at is more = later journal first line lines due (more is)
     by true (Some event) at is more =
@@ -82,7 +85,8 @@ entry_made script journal lane entry is = by (not (lane == 0) && is_some (due_in
         → IsMade script journal entry
     by true o at is = absurd (cc)
     by false None at is = absurd (cc)
-    by false (Some due) at is = record { due = due; found = due_found _ journal 1 script.lines due at; is = (let same : entry_of script journal due ≡ entry = cc in same) }
+    by false (Some due) at is =
+        record { due = due; found = due_found _ journal 1 script.lines due at; is = (let same : entry_of script journal due ≡ entry = cc in same) }
 
 -- ---- what the lines leave to do
 
@@ -139,7 +143,8 @@ led_line content (answer ∷ answers) course = led_line content answers (after c
 has_stage : (content : Content) (course : Course) (event : Event) → event_at content course ≡ Some event → (stage : Stage) × (course.stage ≡ Some stage)
 has_stage content course event is = by course.stage refl is
   where
-    by : (o : Option Stage) → course.stage ≡ o → option_and_then (model.event_in course.line content) o ≡ Some event → (stage : Stage) × (course.stage ≡ Some stage)
+    by : (o : Option Stage) → course.stage ≡ o → option_and_then (model.event_in course.line content) o ≡ Some event
+        → (stage : Stage) × (course.stage ≡ Some stage)
     by None at is = absurd (cc)
     by (Some stage) at is = (stage, at)
 
@@ -163,14 +168,20 @@ weight_falls script journal due place line here number event =
     let now : leads due.line line.content (answers_of (journal ++ entry ∷ []) due.line) ≡ after line.content course entry.answer
     = ap (leads due.line line.content) (answers_of-push_same journal entry due.line refl)
     ∙ fold_push (after line.content) (start due.line line.content) answers entry.answer in
-    let fell_here = subst (λ (e : Entry). left_at script (Some (after line.content course e.answer)) + waiting (replay script (journal ++ e ∷ [])) < left_at script (Some course) + waiting (replay script journal)) same fell in
+    let fell_here =
+    subst
+    (λ (e : Entry). left_at script (Some (after line.content course e.answer)) + waiting (replay script (journal ++ e ∷ [])) < left_at script
+    (Some course) + waiting (replay script journal))
+    same fell in
     let next = after line.content course entry.answer in
-    let lines : length script.lines - next.line ≡ length script.lines - course.line = ap (λ n. length script.lines - n) (after_line line.content course entry.answer) in
+    let lines : length script.lines - next.line ≡ length script.lines - course.line =
+    ap (λ n. length script.lines - n) (after_line line.content course entry.answer) in
     let left_now : weight script (journal ++ entry ∷ []) due.line line ≡ model.left next + new_waiters_at script next
     = ap (λ (c : Course). model.left c + new_waiters_at script c) now in
     omega (arith, fell_here, lines, left_now)
   where
-    line_here : (script : Script) (number place : ℕ) (line : Line) → number ≡ 1 + place → slice_get script.lines place ≡ Some line → line_at script number ≡ Some line
+    line_here : (script : Script) (number place : ℕ) (line : Line) → number ≡ 1 + place → slice_get script.lines place ≡ Some line
+        → line_at script number ≡ Some line
     line_here script number place line is here =
         let some : (number == 0) ≡ false = grind (arith, nat_tests) in
         let before : number - 1 ≡ place = omega (arith, is) in
@@ -183,7 +194,11 @@ all_falls : (script : Script) (journal : List Entry) (entry : Entry) → IsMade 
 all_falls script journal entry made =
     let found = made.found in
     let due = made.due in
-    let fell = subst (λ (e : Entry). weight script (journal ++ e ∷ []) due.line found.line + waiting (replay script (journal ++ e ∷ [])) < weight script journal due.line found.line + waiting (replay script journal)) made.is
+    let fell =
+    subst
+    (λ (e : Entry). weight script (journal ++ e ∷ []) due.line found.line + waiting (replay script (journal ++ e ∷ [])) < weight script journal due.line
+    found.line + waiting (replay script journal))
+    made.is
     (weight_falls script journal due found.place found.line found.here found.number found.event) in
     let own : entry.line ≡ due.line = ap (λ (e : Entry). e.line) (sym made.is) in
     let one = one_line script journal entry 1 script.lines found.place found.line found.here (own ∙ found.number) in
@@ -228,7 +243,8 @@ spent script journal (suc k) so_far le =
     let lt : k < length journal = omega (arith, le) in
     let at = slice_get_at journal k lt in
     let of : (lane : ℕ) × (lane_of script at.0.line ≡ Some lane) × (next script (take k journal) lane ≡ Some at.0)
-    = subst (λ o. IfSome o (λ entry. (lane : ℕ) × (lane_of script entry.line ≡ Some lane) × (next script (take k journal) lane ≡ Some entry))) at.1 (so_far k lt) in
+    = subst (λ o. IfSome o (λ entry. (lane : ℕ) × (lane_of script entry.line ≡ Some lane) × (next script (take k journal) lane ≡ Some entry))) at.1
+    (so_far k lt) in
     let before = spent script journal k so_far (omega (arith, le)) in
     let fell = all_falls script (take k journal) at.0 (entry_made script (take k journal) of.0 at.0 of.2) in
     let next : k + 1 ≡ suc k = omega arith in

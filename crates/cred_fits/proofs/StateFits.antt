@@ -1,5 +1,6 @@
 -- The numbers of answers are in range, in every state that a run comes to.
-use Rattle.std.proofs.Common.{◌≡◌, ℕ, ◌<◌, ◌≤◌, ◌==◌, not, nat_lt, Bool, true, false, cond, List, [], ◌∷◌, ◌++◌, length, slice_get, slice_set, Option, Some, None, Result, Ok, Err, subst, arith}
+use Rattle.std.proofs.Common.{◌≡◌, ℕ, ◌<◌, ◌≤◌, ◌==◌, not, nat_lt, Bool, true, false, cond, List, [], ◌∷◌, ◌++◌, length, slice_get, slice_set, Option, Some}
+use Rattle.std.proofs.Common.{None, Result, Ok, Err, subst, arith}
 use Rattle.std.specs.List.{All, Contains, position, remove, count_by}
 use Rattle.std.specs.Option.{IfSome, option_and_then}
 use Rattle.std.proofs.lemmas.List.{length-map}
@@ -7,6 +8,7 @@ use Rattle.std.proofs.lemmas.List.Elements.{All-push, All-contains}
 use Rattle.std.proofs.lemmas.List.Sums.{count_by-le-length}
 use Rattle.cred_ids.specs.Ordered.{in_order}
 use Rattle.cred_ids.specs.Limits.{TASKS, HOLDS, PREPARED, DEPTH, SLOTS}
+use Rattle.cred_ids.specs.Tests.{◌>>=◌}
 use Rattle.cred_record.specs.Credential.{Credential, first_credential}
 use Rattle.cred_record.specs.File.{File}
 use Rattle.cred_record.specs.declared.gains.Gains.{Gains}
@@ -29,14 +31,17 @@ use Rattle.cred_model.specs.Casts.{waits_no_more, joined, with_child, without_wa
 use Rattle.cred_model.specs.Change.{Made, by_rule}
 use Rattle.cred_model.specs.Dumpable.{flags_begun, flags_committed, flag_of_value}
 use Rattle.cred_model.specs.Ends.{ended, survivors}
-use Rattle.cred_model.specs.Moves.{◌>>=◌, table_full, first_task, created, preparing, altered}
+use Rattle.cred_model.specs.Moves.{table_full, first_task, created, preparing, altered}
 use Rattle.cred_model.specs.Moves.{committed, given_up, with_current, updated, with_overrides}
 use Rattle.cred_model.specs.Moves.{overriding, with_change, relabelled}
 use Rattle.cred_model.specs.Named.{query_files, change_files}
 use Rattle.cred_model.specs.Script.{Script, chain_of}
 use Rattle.cred_model.specs.Slots.{refs}
-use Rattle.cred_model.specs.State.{State, SealedCred, Task, Numbered, Prepared, Changed, Broadcast, numbered, number_on, task_of, cast_in, begun_by, open_of, hold_of, prepared_of, credential_of, opener_of, held_by, info_of}
-use Rattle.cred_model.specs.Step.{by_init, take_hold, by_take, by_take_file, by_release, by_ask, by_signal, by_prepare, by_alter, is_access, for_task, try_commit, ends_with, casts_after, committed_by, commit_answer, by_commit, by_dumpable, by_dumped, by_ptrace, by_file, by_stat}
+use Rattle.cred_model.specs.State.{State, SealedCred, Task, Numbered, Prepared, Changed, Broadcast, numbered, number_on, task_of, cast_in, begun_by, open_of}
+use Rattle.cred_model.specs.State.{hold_of, prepared_of, credential_of, opener_of, held_by, info_of}
+use Rattle.cred_model.specs.Step.{by_init, take_hold, by_take, by_take_file, by_release, by_ask, by_signal, by_prepare, by_alter, is_access, for_task}
+use Rattle.cred_model.specs.Step.{try_commit, ends_with, casts_after, committed_by, commit_answer, by_commit, by_dumpable, by_dumped, by_ptrace, by_file}
+use Rattle.cred_model.specs.Step.{by_stat}
 use Rattle.cred_model.proofs.Lists.{All-at, All-kept, All-remove, find_each, get_each}
 use Rattle.cred_model.proofs.Numbers.{updated_as, overriding_as, changed_as}
 use Rattle.cred_model.proofs.Rising.{All-in_order, All-passed}
@@ -49,7 +54,8 @@ use Rattle.cred_reader.specs.Fits.{IsNumber, IsLong, FitsChange, FitsEvent, Fits
 use Rattle.cred_fits.specs.Content.{FitsFile}
 use Rattle.cred_fits.proofs.CredFits.{FitsCred}
 use Rattle.cred_fits.proofs.ChangeFits.{FitsMade, first_fits, change_made_fits}
-use Rattle.cred_fits.proofs.Ranges.{FitsSealed, FitsTask, FitsCast, FitsChanged, FitsPrepared, AreInRange, IsInRange, Good, Gives, some_fits, IsFound, is_found, found_by, idle, own}
+use Rattle.cred_fits.proofs.Ranges.{FitsSealed, FitsTask, FitsCast, FitsChanged, FitsPrepared, AreInRange, IsInRange, Good, Gives, some_fits, IsFound, is_found}
+use Rattle.cred_fits.proofs.Ranges.{found_by, idle, own}
 
 -- what is known of a state before an event
 pub record IsKnown (s : State) : Type 0 where
@@ -72,7 +78,8 @@ with_cred creds c slot all fits small = All-push FitsSealed creds _ all (fits, s
 pub current_fits : (tasks : List Task) (task n : ℕ) → All FitsTask tasks → All FitsTask (with_current tasks task n)
 current_fits tasks task n all = All-kept FitsTask (updated task n) tasks (λ t h. updated_as FitsTask task n t h h) all
 
-pub overrides_fit : (tasks : List Task) (task : ℕ) (numbers : List ℕ) → length numbers ≤ DEPTH → All FitsTask tasks → All FitsTask (with_overrides tasks task numbers)
+pub overrides_fit : (tasks : List Task) (task : ℕ) (numbers : List ℕ) → length numbers ≤ DEPTH → All FitsTask tasks
+    → All FitsTask (with_overrides tasks task numbers)
 overrides_fit tasks task numbers few all =
     All-kept FitsTask (overriding task numbers) tasks (λ t h. overriding_as FitsTask task numbers t (h.0, few) h) all
 
@@ -115,7 +122,10 @@ of_init s task process user group ns root known fits =
     (none_case (Gives s) (task_of s task) _ _ (fits.0, range) (λ new.
     test_case (Gives s) (nat_lt (length s.tasks) TASKS) _ _ (tt, range)
     (in_slots Good s table_full
-    (λ t slot. (answer.Sealed (length t.creds) slot, record (created t (first_task task process (length t.creds)) (first_credential user group ns root) slot) { dumpable = flags_begun t process }))
+    (λ t slot. (
+      answer.Sealed (length t.creds) slot,
+      record (created t (first_task task process (length t.creds)) (first_credential user group ns root) slot) { dumpable = flags_begun t process },
+    ))
     (λ left less. (tt, range))
     (λ left slot less free. (
       (known.creds, slot_number slot free.below),
@@ -260,7 +270,8 @@ of_alter script s label to known l fits =
     some_case (Gives s) (numbered s.creds p.base) _ _ (l, known.range) (λ base is.
     let found = is_found s p.base base known.range.creds is in
     of_altered s label to _ known
-    (change_made_fits (info_of s.infos (change_files to)) (chain_of script base.cred.ns) base.cred to found.cred (named_file s.infos (change_files to) known.infos) fits)))
+    (change_made_fits (info_of s.infos (change_files to)) (chain_of script base.cred.ns) base.cred to found.cred
+    (named_file s.infos (change_files to) known.infos) fits)))
 
 -- ---- calls on files
 
@@ -326,8 +337,10 @@ tried s task place p owner last known at found relabelled =
     let range = known.range in
     let fits = prepared_at s place p range at in
     let ends = ends_with last.change owner in
-    elim (owner.current == p.base) as (λ b. Good (cond b
-    (commit_answer last (length s.creds) p.slot (count_by ends s.tasks), record (casts_after last.change owner (committed (ended ends s) place p owner.current last.cred)) { dumpable = flags_committed s owner last })
+    elim (owner.current == p.base) as (λ b. Good (cond b (
+      commit_answer last (length s.creds) p.slot (count_by ends s.tasks),
+      record (casts_after last.change owner (committed (ended ends s) place p owner.current last.cred)) { dumpable = flags_committed s owner last },
+    )
     (answer.Stale p.base owner.current, given_up s place p))) [
       | true ↦ (
         commit_fits last.change last.gains (length s.creds) p.slot (count_by ends s.tasks) relabelled.1 known.creds (slot_number p.slot fits.1)

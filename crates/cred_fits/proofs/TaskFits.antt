@@ -1,11 +1,13 @@
 -- The numbers of answers are in range: overrides, id calls, files and tasks; and every event.
-use Rattle.std.proofs.Common.{◌≡◌, ◌&&◌, ℕ, ◌-◌, ◌<◌, ◌≤◌, ◌==◌, nat_lt, Bool, true, false, cond, List, [], ◌∷◌, ◌++◌, length, map, slice_get, drop, Option, Some, None, Result, Ok, Err, refl, subst, arith}
+use Rattle.std.proofs.Common.{◌≡◌, ◌&&◌, ℕ, ◌-◌, ◌<◌, ◌≤◌, ◌==◌, nat_lt, Bool, true, false, cond, List, [], ◌∷◌, ◌++◌, length, map, slice_get, drop, Option}
+use Rattle.std.proofs.Common.{Some, None, Result, Ok, Err, refl, subst, arith}
 use Rattle.std.specs.List.{All, AllPairs, find, position, filter}
 use Rattle.std.specs.Option.{IfSome, option_map_or, option_and_then}
 use Rattle.std.proofs.lemmas.List.{length-drop, length-map}
 use Rattle.std.proofs.lemmas.List.Elements.{All-nil, All-cons, All-push, All-map, All-append}
 use Rattle.std.proofs.lemmas.List.Sums.{count_by-le-length, length-filter}
 use Rattle.cred_ids.specs.Limits.{TASKS, OPEN_FILES, DEPTH}
+use Rattle.cred_ids.specs.Tests.{◌>>=◌}
 use Rattle.cred_record.specs.Credential.{Credential}
 use Rattle.cred_record.specs.declared.id_call.IdCall.{IdCall}
 use Rattle.cred_record.specs.declared.refusal.Denial.{Denial}
@@ -18,15 +20,18 @@ use Rattle.cred_event.specs.declared.answer.Answer.TheVariants as answer
 use Rattle.cred_event.specs.declared.answer.AbortCause.TheVariants as cause
 use Rattle.cred_event.specs.declared.event.Event.{Event}
 use Rattle.cred_event.specs.declared.event.Event.TheVariants as event
-use Rattle.cred_model.specs.Answers.{is_ok, checked}
+use Rattle.cred_event.specs.Answers.{is_ok}
+use Rattle.cred_model.specs.Answers.{checked}
 use Rattle.cred_model.specs.Casts.{others_of, with_cast, waits_no_more, is_open}
 use Rattle.cred_model.specs.Change.{by_rule}
 use Rattle.cred_model.specs.Dumpable.{differs, renewed}
 use Rattle.cred_model.specs.Ends.{is_thread_of, is_beside, is_task}
-use Rattle.cred_model.specs.Moves.{◌>>=◌, table_full, first_task, replaced}
+use Rattle.cred_model.specs.Moves.{table_full, first_task, replaced}
 use Rattle.cred_model.specs.Script.{Script, root_of}
-use Rattle.cred_model.specs.State.{State, Task, Numbered, Prepared, Changed, Broadcast, numbered, task_of, cast_of, cast_in, begun_by, open_of, hold_of, held_by, info_of}
-use Rattle.cred_model.specs.Step.{step, is_access, by_abort, for_access, override_held, override_prepared, by_override, by_revert, by_begin, aborted, follow, by_act, by_open, by_close, by_spawn, by_fork, by_exit, by_raw}
+use Rattle.cred_model.specs.State.{State, Task, Numbered, Prepared, Changed, Broadcast, numbered, task_of, cast_of, cast_in, begun_by, open_of, hold_of}
+use Rattle.cred_model.specs.State.{held_by, info_of}
+use Rattle.cred_model.specs.Step.{step, is_access, by_abort, for_access, override_held, override_prepared, by_override, by_revert, by_begin, aborted, follow}
+use Rattle.cred_model.specs.Step.{by_act, by_open, by_close, by_spawn, by_fork, by_exit, by_raw}
 use Rattle.cred_model.proofs.Lists.{All-at, All-remove, find_each, slice_get_at}
 use Rattle.cred_model.proofs.Rising.{All-in_order, All-passed, length-in_order}
 use Rattle.cred_model.proofs.Waiting.{greatest_bounds}
@@ -37,8 +42,11 @@ use Rattle.cred_sound.proofs.Parts.{with_left}
 use Rattle.cred_reader.specs.Fits.{IsNumber, FitsCall, FitsEvent}
 use Rattle.cred_reader.proofs.Spelled.{Holds}
 use Rattle.cred_fits.proofs.CredFits.{FitsCred, call_made_fits}
-use Rattle.cred_fits.proofs.Ranges.{FitsTask, FitsCast, FitsChanged, FitsPrepared, IsInRange, Good, Gives, some_fits, IsFound, is_found, found_by, idle, own, fewer}
-use Rattle.cred_fits.proofs.StateFits.{IsKnown, slot_number, with_cred, current_fits, overrides_fit, survivors_fit, dropped_fit, left_fit, joined_fit, prepared_at, owner_fits, found_answer, without_label, of_init, of_take, of_take_file, of_release, of_ask, of_signal, of_prepare, of_alter, of_commit, of_check, of_dumpable, of_dumped, of_ptrace, of_file, of_stat}
+use Rattle.cred_fits.proofs.Ranges.{FitsTask, FitsCast, FitsChanged, FitsPrepared, IsInRange, Good, Gives, some_fits, IsFound, is_found, found_by, idle, own}
+use Rattle.cred_fits.proofs.Ranges.{fewer}
+use Rattle.cred_fits.proofs.StateFits.{IsKnown, slot_number, with_cred, current_fits, overrides_fit, survivors_fit, dropped_fit, left_fit, joined_fit}
+use Rattle.cred_fits.proofs.StateFits.{prepared_at, owner_fits, found_answer, without_label, of_init, of_take, of_take_file, of_release, of_ask, of_signal}
+use Rattle.cred_fits.proofs.StateFits.{of_prepare, of_alter, of_commit, of_check, of_dumpable, of_dumped, of_ptrace, of_file, of_stat}
 
 -- ---- what is given up, and what overrides
 
@@ -54,7 +62,8 @@ access_fits task p last fits is = by p.changed fits is
     taken true c h is = let same : c ≡ last = cc in subst FitsChanged same h
     taken false c h is = absurd (cc)
 
-    by : (o : Option Changed) → IfSome o FitsChanged → option_and_then (λ last. cond ((p.task == task) && is_access last.change) (Some last) None) o ≡ Some last → FitsChanged last
+    by : (o : Option Changed) → IfSome o FitsChanged
+        → option_and_then (λ last. cond ((p.task == task) && is_access last.change) (Some last) None) o ≡ Some last → FitsChanged last
     by None h is = absurd (cc)
     by (Some c) h is = taken ((p.task == task) && is_access c.change) c h is
 
@@ -148,7 +157,10 @@ of_begin s line task call known n t fits =
     let others = others_of owner s.tasks in
     let cast : Broadcast = record { number = line; process = owner.process; caller = task; call = call; waiting = others } in
     in_slots Good s table_full
-    (λ t slot. (answer.Began (length t.creds) slot (length others), record (replaced t task old.number made slot) { casts = with_cast t.casts cast; dumpable = renewed t.dumpable owner.process (differs old.cred made) }))
+    (λ t slot. (
+      answer.Began (length t.creds) slot (length others),
+      record (replaced t task old.number made slot) { casts = with_cast t.casts cast; dumpable = renewed t.dumpable owner.process (differs old.cred made) },
+    ))
     (λ left less. (tt, range))
     (λ left slot less free. (
       (known.creds, slot_number slot free.below, (let few = known.tasks in omega (arith, few, others_few owner s.tasks))),
@@ -186,7 +198,10 @@ followed s cast task owner old (Ok made) known t few h =
     let range = known.range in
     in_slots Good s
     (λ t. (answer.Aborted task cause.Full, aborted cast t))
-    (λ t slot. (answer.Acted task (length t.creds) slot (length cast.waiting - 1), record (replaced t task old.number made slot) { casts = waits_no_more task t.casts; dumpable = renewed t.dumpable owner.process (differs old.cred made) }))
+    (λ t slot. (
+      answer.Acted task (length t.creds) slot (length cast.waiting - 1),
+      record (replaced t task old.number made slot) { casts = waits_no_more task t.casts; dumpable = renewed t.dumpable owner.process (differs old.cred made) },
+    ))
     (λ left less. (t, aborted_range cast (with_left s left) range))
     (λ left slot less free. (
       (t, known.creds, slot_number slot free.below, few),
@@ -203,7 +218,8 @@ of_act s number known n =
     let range = known.range in
     some_case (Gives s) (cast_of s number) _ _ (n, range) (λ cast is.
     let fits = some_fits FitsCast (cast_of s number) cast (find_each FitsCast (λ b. b.number == number) s.casts range.casts) is in
-    let way = some_fits (IsUnderWay s.tasks) (cast_of s number) cast (find_each (IsUnderWay s.tasks) (λ b. b.number == number) s.casts known.sound.under_way) is in
+    let way =
+    some_fits (IsUnderWay s.tasks) (cast_of s number) cast (find_each (IsUnderWay s.tasks) (λ b. b.number == number) s.casts known.sound.under_way) is in
     some_case (Gives s) (slice_get cast.waiting 0) _ _ (n, range) (λ task at.
     some_case (Gives s) (task_of s task) _ _ (n, range) (λ owner found.
     some_case (Gives s) (numbered s.creds owner.current) _ _ (n, range) (λ old there.
@@ -221,7 +237,10 @@ of_raw s task call known t fits =
     (own s owner _ (owner_fits s task owner range is) range
     (by_rule_gives s (set_id old.cred call) _ range (call_made_fits old.cred call found.cred fits) (λ made h.
     in_slots Good s table_full
-    (λ t slot. (answer.Sealed (length t.creds) slot, record (replaced t task old.number made slot) { dumpable = renewed t.dumpable owner.process (differs old.cred made) }))
+    (λ t slot. (
+      answer.Sealed (length t.creds) slot,
+      record (replaced t task old.number made slot) { dumpable = renewed t.dumpable owner.process (differs old.cred made) },
+    ))
     (λ left less. (tt, range))
     (λ left slot less free. (
       (known.creds, slot_number slot free.below),

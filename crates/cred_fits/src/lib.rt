@@ -1,5 +1,5 @@
-//! Laws of the entries of a script's journals: each fits the script, so that it is read back from
-//! its text.
+//! Laws: the entries of a script's journals fit it, so that no other list has their text (`only`).
+//! Read it as part of `cred_reader`.
 //!
 //! Each law is the contract of a function with nothing in its body.
 #![tactic(auto)]

@@ -1,21 +1,23 @@
 -- Each line of a generated script is accepted, whatever was read before it in the setup.
-use Rattle.std.proofs.Common.{◌≡◌, ℕ, zero, suc, ◌+◌, ◌%◌, ◌==◌, true, false, cond, List, [], ◌∷◌, ◌++◌, map, length, codes, Result, Ok, Err, refl, sym, ap, ◌∙◌, arith}
+use Rattle.std.proofs.Common.{◌≡◌, ℕ, zero, suc, ◌+◌, ◌%◌, ◌==◌, true, false, cond, List, [], ◌∷◌, ◌++◌, map, length, codes, Result, Ok, Err, refl, sym, ap}
+use Rattle.std.proofs.Common.{◌∙◌, arith}
 use Rattle.std.specs.List.{range_with_len}
 use Rattle.std.proofs.lemmas.List.FromFn.{length-map-range_with_len, map-range_with_len_more}
 use Rattle.std.proofs.lemmas.List.{flat_map_more}
 use Rattle.cred_model.specs.Script.{Script}
 use Rattle.cred_spelling.specs.declared.reason.Reason.{Reason}
 use Rattle.cred_spelling.specs.Lines.{lines_of}
-use Rattle.cred_spelling.specs.Words.{◌>>=◌, two_of, three_of, five_of}
+use Rattle.cred_spelling.specs.Words.{two_of, three_of, five_of}
 use Rattle.cred_spelling.specs.Names.{forms, id_names, change_names, query_names}
-use Rattle.cred_forms.specs.IdCalls.{id_call_of}
-use Rattle.cred_forms.specs.Changes.{change_of}
-use Rattle.cred_forms.specs.Questions.{query_of}
-use Rattle.cred_forms.specs.Calls.{content_of, call_of}
-use Rattle.cred_forms.specs.Forms.{parse_form}
+use Rattle.cred_grammar.specs.IdCalls.{id_call_of}
+use Rattle.cred_grammar.specs.Changes.{change_of}
+use Rattle.cred_grammar.specs.Questions.{query_of}
+use Rattle.cred_grammar.specs.Calls.{content_of, call_of}
+use Rattle.cred_grammar.specs.Forms.{parse_form}
 use Rattle.cred_grammar.specs.Reading.{Reading, nothing, script}
 use Rattle.cred_grammar.specs.Grammar.{parse_full, add_line, add_lines, script_of}
 use Rattle.cred_generate.specs.Generated.{FIRST, call_by, call, generated, text_of}
+use Rattle.cred_ids.specs.Tests.{◌>>=◌}
 
 -- what holds of each of the five lines holds of each call
 each : (P : List ℕ → Type 0) → P (codes "t1 setresuid 0 0 0") → P (codes "t1 keepcaps 1") → P (codes "t1 capable 21")

@@ -22,7 +22,9 @@ counted_at : (script : Script) (journal : List Entry) (k : ℕ) (entry : Entry) 
     → count_sealed (take (k + 1) journal) ≡ length (state_at script journal (k + 1)).creds
 counted_at script journal k entry at answered before =
     let s = state_at script journal k in
-    let here = take_more journal k entry (slice_get_within journal k entry at) ∙ ap (λ (e : Entry). take k journal ++ e ∷ []) (get_or_from_slice_get journal k entry entry at) in
+    let here =
+    take_more journal k entry (slice_get_within journal k entry at)
+    ∙ ap (λ (e : Entry). take k journal ++ e ∷ []) (get_or_from_slice_get journal k entry entry at) in
     ap count_sealed here
     ∙ fold_push (λ (count : ℕ) (e : Entry). count_with count e.answer) 0 (take k journal) entry
     ∙ ap (λ (n : ℕ). count_with n entry.answer) before
@@ -36,7 +38,9 @@ counted script journal answered zero le = refl
 counted script journal answered (suc k) le =
     let lt : k < length journal = omega arith in
     let there = slice_get_at journal k lt in
-    let said = subst (λ (o : Option Entry). IfSome o (λ entry. entry.answer ≡ (step script (state_at script journal k) entry.line entry.event).0)) there.1 (answered k lt) in
+    let said =
+    subst (λ (o : Option Entry). IfSome o (λ entry. entry.answer ≡ (step script (state_at script journal k) entry.line entry.event).0)) there.1
+    (answered k lt) in
     let one : k + 1 ≡ suc k = omega arith in
     subst (λ (n : ℕ). count_sealed (take n journal) ≡ length (state_at script journal n).creds) one
     (counted_at script journal k there.0 there.1 said (counted script journal answered k (omega arith)))
@@ -45,4 +49,5 @@ counted script journal answered (suc k) le =
 pub sealed_count : (script : Script) (journal : List Entry) → IsAnswered script journal → count_sealed journal ≡ length (replay script journal).creds
 sealed_count script journal answered =
     let all = take_all (length journal) journal (omega arith) in
-    subst (λ (entries : List Entry). count_sealed entries ≡ length (replay script entries).creds) all (counted script journal answered (length journal) (omega arith))
+    subst (λ (entries : List Entry). count_sealed entries ≡ length (replay script entries).creds) all
+    (counted script journal answered (length journal) (omega arith))

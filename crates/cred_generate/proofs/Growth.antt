@@ -1,11 +1,13 @@
 -- An event seals a credential just where its answer names the next number.
-use Rattle.std.proofs.Common.{◌≡◌, ℕ, ◌+◌, ◌-◌, ◌==◌, nat_lt, Bool, true, false, cond, is_some, List, [], ◌∷◌, ◌++◌, length, slice_get, Option, Some, None, Result, Ok, Err, refl, ap, arith}
+use Rattle.std.proofs.Common.{◌≡◌, ℕ, ◌+◌, ◌-◌, ◌==◌, nat_lt, Bool, true, false, cond, is_some, List, [], ◌∷◌, ◌++◌, length, slice_get, Option, Some, None}
+use Rattle.std.proofs.Common.{Result, Ok, Err, refl, ap, arith}
 use Rattle.std.specs.List.{find, position, count_by}
 use Rattle.std.specs.Option.{option_map_or, option_and_then}
 use Rattle.std.proofs.lemmas.Bool.Decides.{nat_tests}
 use Rattle.std.proofs.lemmas.List.{length_push}
 use Rattle.std.proofs.lemmas.Option.{slice_get_within}
 use Rattle.cred_ids.specs.Limits.{TASKS, OPEN_FILES, HOLDS, PREPARED, DEPTH}
+use Rattle.cred_ids.specs.Tests.{◌>>=◌}
 use Rattle.cred_record.specs.Credential.{Credential, first_credential}
 use Rattle.cred_record.specs.File.{File}
 use Rattle.cred_record.specs.declared.gains.Gains.{Gains}
@@ -30,18 +32,23 @@ use Rattle.cred_event.specs.declared.event.Mode.{Mode}
 use Rattle.cred_event.specs.declared.event.Query.{Query}
 use Rattle.cred_event.specs.declared.event.Query.TheVariants as query
 use Rattle.cred_event.specs.declared.event.Side.{Side}
-use Rattle.cred_model.specs.Answers.{is_ok, refusal, flag, checked, reply}
+use Rattle.cred_event.specs.Answers.{is_ok}
+use Rattle.cred_model.specs.Answers.{refusal, flag, checked, reply}
 use Rattle.cred_model.specs.Casts.{others_of, with_cast, waits_no_more}
 use Rattle.cred_model.specs.Change.{Made, by_rule, made_by_rule, made_by_execve, made_by_exec, by_change}
 use Rattle.cred_model.specs.Dumpable.{differs, renewed, flags_begun, flags_committed, flag_of_value}
 use Rattle.cred_model.specs.Ends.{ended, is_thread_of}
-use Rattle.cred_model.specs.Moves.{◌>>=◌, in_slot, table_full, first_task, created, replaced}
+use Rattle.cred_model.specs.Moves.{in_slot, table_full, first_task, created, replaced}
 use Rattle.cred_model.specs.Moves.{preparing, altered, committed, given_up}
 use Rattle.cred_model.specs.Named.{query_files, change_files}
 use Rattle.cred_model.specs.Script.{Script, chain_of, root_of}
 use Rattle.cred_model.specs.Slots.{swept_if_full, free, least_free, swept}
-use Rattle.cred_model.specs.State.{State, SealedCred, Task, Numbered, Prepared, Changed, Broadcast, ProcessFlag, numbered, number_on, task_of, cast_of, cast_in, begun_by, open_of, hold_of, prepared_of, credential_of, opener_of, held_by, info_of}
-use Rattle.cred_model.specs.Step.{done, outcome, by_init, take_hold, by_take, by_take_file, by_release, by_ask, by_signal, by_prepare, by_alter, for_task, try_commit, ends_with, casts_after, committed_by, commit_answer, by_commit, by_abort, for_access, override_held, override_prepared, by_override, by_revert, by_begin, aborted, follow, by_act, by_open, by_close, by_spawn, by_fork, by_exit, by_dumpable, by_dumped, by_ptrace, by_file, by_stat, by_raw}
+use Rattle.cred_model.specs.State.{State, SealedCred, Task, Numbered, Prepared, Changed, Broadcast, ProcessFlag, numbered, number_on, task_of, cast_of, cast_in}
+use Rattle.cred_model.specs.State.{begun_by, open_of, hold_of, prepared_of, credential_of, opener_of, held_by, info_of}
+use Rattle.cred_model.specs.Step.{done, outcome, by_init, take_hold, by_take, by_take_file, by_release, by_ask, by_signal, by_prepare, by_alter, for_task}
+use Rattle.cred_model.specs.Step.{try_commit, ends_with, casts_after, committed_by, commit_answer, by_commit, by_abort, for_access, override_held}
+use Rattle.cred_model.specs.Step.{override_prepared, by_override, by_revert, by_begin, aborted, follow, by_act, by_open, by_close, by_spawn, by_fork, by_exit}
+use Rattle.cred_model.specs.Step.{by_dumpable, by_dumped, by_ptrace, by_file, by_stat, by_raw}
 use Rattle.cred_model.proofs.Numbers.{numbered_is, sealed_cred_of}
 use Rattle.cred_laws.proofs.Cases.{some_case, none_case, test_case, own_case, idle_case, rule_case}
 use Rattle.cred_generate.specs.Sealed.{number_named, count_with}
@@ -119,7 +126,10 @@ of_init s task process user group ns root =
     none_case (Tells s) (task_of s task) _ _ refl (λ new.
     test_case (Tells s) (nat_lt (length s.tasks) TASKS) _ _ refl
     (slot_counts s table_full
-    (λ t slot. (answer.Sealed (length t.creds) slot, record (created t (first_task task process (length t.creds)) (first_credential user group ns root) slot) { dumpable = flags_begun t process }))
+    (λ t slot. (
+      answer.Sealed (length t.creds) slot,
+      record (created t (first_task task process (length t.creds)) (first_credential user group ns root) slot) { dumpable = flags_begun t process },
+    ))
     (λ t is. long s t is) (λ t slot is. next_of s t.creds (record { cred = first_credential user group ns root; slot = slot }) is))))
 
 of_hold : (s : State) (label : ℕ) (taken : Numbered) → (taken.number == length s.creds) ≡ false → Tells s (take_hold s label taken)
@@ -242,10 +252,13 @@ committed_counts change.Access gains s t slot count owner flags new is = rw is (
 tried : (s : State) (place : ℕ) (p : Prepared) (owner : Task) (last : Changed) → Counts s (try_commit s place p owner last)
 tried s place p owner last =
     let ends = ends_with last.change owner in
-    elim (owner.current == p.base) as (λ b. Counts s (cond b
-    (commit_answer last (length s.creds) p.slot (count_by ends s.tasks), record (casts_after last.change owner (committed (ended ends s) place p owner.current last.cred)) { dumpable = flags_committed s owner last })
+    elim (owner.current == p.base) as (λ b. Counts s (cond b (
+      commit_answer last (length s.creds) p.slot (count_by ends s.tasks),
+      record (casts_after last.change owner (committed (ended ends s) place p owner.current last.cred)) { dumpable = flags_committed s owner last },
+    )
     (answer.Stale p.base owner.current, given_up s place p))) [
-      | true ↦ committed_counts last.change last.gains s (committed (ended ends s) place p owner.current last.cred) p.slot (count_by ends s.tasks) owner (flags_committed s owner last) _ refl
+      | true ↦ committed_counts last.change last.gains s (committed (ended ends s) place p owner.current last.cred) p.slot (count_by ends s.tasks) owner
+          (flags_committed s owner last) _ refl
       | false ↦ refl
     ]
 
@@ -294,7 +307,10 @@ of_begin s line task call =
     let others = others_of owner s.tasks in
     let cast : Broadcast = record { number = line; process = owner.process; caller = task; call = call; waiting = others } in
     slot_counts s table_full
-    (λ t slot. (answer.Began (length t.creds) slot (length others), record (replaced t task old.number made slot) { casts = with_cast t.casts cast; dumpable = renewed t.dumpable owner.process (differs old.cred made) }))
+    (λ t slot. (
+      answer.Began (length t.creds) slot (length others),
+      record (replaced t task old.number made slot) { casts = with_cast t.casts cast; dumpable = renewed t.dumpable owner.process (differs old.cred made) },
+    ))
     (λ t is. long s t is) (λ t slot is. next_of s t.creds (record { cred = made; slot = slot }) is)))))))
 
 followed : (s : State) (cast : Broadcast) (task : ℕ) (owner : Task) (old : Numbered) (r : Result Credential Answer) → Counts s (follow s cast task owner old r)
@@ -302,7 +318,10 @@ followed s cast task owner old (Err refused) = refl
 followed s cast task owner old (Ok made) =
     slot_counts s
     (λ t. (answer.Aborted task cause.Full, aborted cast t))
-    (λ t slot. (answer.Acted task (length t.creds) slot (length cast.waiting - 1), record (replaced t task old.number made slot) { casts = waits_no_more task t.casts; dumpable = renewed t.dumpable owner.process (differs old.cred made) }))
+    (λ t slot. (
+      answer.Acted task (length t.creds) slot (length cast.waiting - 1),
+      record (replaced t task old.number made slot) { casts = waits_no_more task t.casts; dumpable = renewed t.dumpable owner.process (differs old.cred made) },
+    ))
     (λ t is. long s t is) (λ t slot is. next_of s t.creds (record { cred = made; slot = slot }) is)
 
 of_act : (s : State) (number : ℕ) → Tells s (by_act s number)
@@ -391,7 +410,10 @@ of_raw s task call =
     own_case (Tells s) owner _ (λ depth. refl)
     (rule_case (Tells s) (set_id old.cred call) _ (silent_refusal s) (λ made ruled.
     slot_counts s table_full
-    (λ t slot. (answer.Sealed (length t.creds) slot, record (replaced t task old.number made slot) { dumpable = renewed t.dumpable owner.process (differs old.cred made) }))
+    (λ t slot. (
+      answer.Sealed (length t.creds) slot,
+      record (replaced t task old.number made slot) { dumpable = renewed t.dumpable owner.process (differs old.cred made) },
+    ))
     (λ t is. long s t is) (λ t slot is. next_of s t.creds (record { cred = made; slot = slot }) is))))))
 
 pub tells : (script : Script) (s : State) (line : ℕ) (e : Event) → Tells s (done script s line e)

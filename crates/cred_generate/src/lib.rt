@@ -1,4 +1,4 @@
-//! Scripts that are made from a number, and what a line tells of a journal.
+//! `gen`: a script that is made from a number, and the summary of a journal.
 //!
 //! `Generated` says what lines such a script has, and `Summary` what is counted.
 #![tactic(auto)]

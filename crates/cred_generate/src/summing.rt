@@ -1,10 +1,9 @@
 //! What is told of a journal in one line.
 ghost use Rattle.std.specs.Prelude.{◌≡◌, count_by, length};
-ghost use Rattle.cred_model.specs.Answers as model;
 ghost use Rattle.cred_generate.specs.Summary.{HasRoom, is_refused, nothing_told, told_on};
 
 use crate::sealing::sealed_after;
-use cred_event::{Answer, Entry};
+use cred_event::Entry;
 use cred_script::Script;
 
 /// What is told of a journal in one line.
@@ -50,26 +49,9 @@ fn count_refused(entries: &[Entry]) -> u64
 {
     let mut count = 0;
     for entry in entries {
-        if !is_ok(&entry.answer) {
+        if !entry.answer.is_ok() {
             count += 1;
         }
     }
     count
-}
-
-/// The answer is no refusal.
-fn is_ok(answer: &Answer) -> bool
-    ensures { result ≡ model.is_ok answer.now }
-{
-    matches!(
-        answer,
-        Answer::Done
-            | Answer::Sealed { .. }
-            | Answer::Kept { .. }
-            | Answer::Was { .. }
-            | Answer::Executed { .. }
-            | Answer::Began { .. }
-            | Answer::Acted { .. }
-            | Answer::Told(_)
-    )
 }

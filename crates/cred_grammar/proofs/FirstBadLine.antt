@@ -3,12 +3,12 @@ use Rattle.std.proofs.Common.{◌≡◌, ℕ, suc, ◌+◌, ◌-◌, ◌<◌, Li
 use Rattle.std.specs.Result.{is_ok}
 use Rattle.cred_model.specs.Script.{Script}
 use Rattle.cred_spelling.specs.declared.reason.Reason.{Reason}
-use Rattle.cred_spelling.specs.Words.{◌>>=◌}
+use Rattle.cred_ids.specs.Tests.{◌>>=◌}
 use Rattle.cred_grammar.specs.declared.refusal.ScriptRefusal.{ScriptRefusal}
 use Rattle.cred_grammar.specs.declared.refusal.ScriptRefusal.TheVariants.{Bad, Memory}
 use Rattle.cred_grammar.specs.Grammar.{at_line, add_line, add_lines}
 use Rattle.cred_grammar.specs.Reading.{Reading, nothing, script}
-use Rattle.cred_grammar.specs.Read.{ReadsAs}
+use Rattle.cred_grammar.specs.ReadAnswers.{ReadsAs}
 use Rattle.cred_grammar.specs.FirstBad.{IsFirstBad, ReportsFirstBad}
 use Rattle.cred_grammar.proofs.Steps.{longer}
 
@@ -75,5 +75,6 @@ refused (Err d) e h = let same : d ≡ e = cc in ap (λ (x : ℕ × Reason). let
 pub tells_first : (texts : List (List ℕ)) (result : Result Script ScriptRefusal)
     → ReadsAs (λ (given : Script). given) result (add_lines nothing texts >>= λ reading. Ok (script reading)) → ReportsFirstBad texts result
 tells_first texts (Ok given) h = tt
-tells_first texts (Err (Bad line reason)) h = is_first texts line reason (first_bad texts nothing line reason (refused (add_lines nothing texts) (line, reason) h))
+tells_first texts (Err (Bad line reason)) h =
+    is_first texts line reason (first_bad texts nothing line reason (refused (add_lines nothing texts) (line, reason) h))
 tells_first texts (Err Memory) h = tt

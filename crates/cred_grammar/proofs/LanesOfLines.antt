@@ -1,5 +1,6 @@
 -- What was read stays sound with a line more, and as lanes are opened and named.
-use Rattle.std.proofs.Common.{◌≡◌, ◌≢◌, ℕ, ◌==◌, ◌≤◌, ◌<◌, Bool, true, false, not, ◌&&◌, ◌||◌, cond, List, [], ◌∷◌, ◌++◌, length, All, AllPairs, Option, Some, None, IfSome, refl, sym, ap, subst, ◌∙◌, length-append, arith}
+use Rattle.std.proofs.Common.{◌≡◌, ◌≢◌, ℕ, ◌==◌, ◌≤◌, ◌<◌, Bool, true, false, not, ◌&&◌, ◌||◌, cond, List, [], ◌∷◌, ◌++◌, length, All, AllPairs, Option, Some}
+use Rattle.std.proofs.Common.{None, IfSome, refl, sym, ap, subst, ◌∙◌, length-append, arith}
 use Rattle.std.specs.List.{cons_option}
 use Rattle.std.proofs.lemmas.Bool.{eqb-true}
 use Rattle.std.proofs.lemmas.Bool.Decides.{nat_tests}
@@ -7,7 +8,7 @@ use Rattle.std.proofs.lemmas.List.Elements.{All-nil, All-push, All-weaker, All-c
 use Rattle.std.proofs.lemmas.List.Quantifiers.{all_pairs_push}
 use Rattle.cred_event.specs.declared.content.Content.{Content}
 use Rattle.cred_model.specs.Script.{Line, Namespace, SetupBefore}
-use Rattle.cred_model.specs.Changing.{line_changes}
+use Rattle.cred_model.specs.FileChanges.{line_changes}
 use Rattle.cred_script.specs.Acting.{actor}
 use Rattle.cred_names.specs.Labels.{labels}
 use Rattle.cred_names.specs.Owners.{Lanes, Owners, KeepsLanes, KeepsOwners, HasAll, owner_of, are_free, may_name, naming}
@@ -18,14 +19,17 @@ use Rattle.cred_grammar.specs.Sound.{IsNextLine, IsStart, IsTaskLine, IsOwned, A
 use Rattle.cred_names.proofs.OwnedNumbers.{has_all}
 
 -- a sound line more
-pub pushed : (reading : Reading) (lines : List Line) (content : Content) → lines ≡ reading.lines ++ next_line reading content ∷ [] → length reading.lines < 20000
+pub pushed : (reading : Reading) (lines : List Line) (content : Content) → lines ≡ reading.lines ++ next_line reading content ∷ []
+    → length reading.lines < 20000
     → AreLinesRead (length reading.files) reading.namespaces reading.lanes reading.lines → IsNextLine reading content
     → AreLinesRead (length reading.files) reading.namespaces reading.lanes lines
 pushed reading lines content lines_are room old next =
     let line = next_line reading content in
     rw lines_are (record {
       few = rw (length-append reading.lines (line ∷ [])) (omega arith);
-      each = All-push (IsSoundLine (length reading.files) reading.namespaces) reading.lines line old.each (record { lane = old.lane; labels = next.labels; content = next.named; fixed = next.fixed });
+      each =
+          All-push (IsSoundLine (length reading.files) reading.namespaces) reading.lines line old.each
+          (record { lane = old.lane; labels = next.labels; content = next.named; fixed = next.fixed });
       lane = old.lane;
       setup = λ zero. All-push (λ l. l.lane ≡ 0) reading.lines line (old.setup zero) zero;
       first = all_pairs_push SetupBefore reading.lines line old.first (λ k d lt zero. old.setup zero k d lt);
@@ -59,7 +63,8 @@ owned_still count declared old new lines keeps sound = record {
   first = sound.first;
   owned =
       All-weaker (IsOwned old) (IsOwned new)
-      (λ line has other. (all_kept old.tasks new.tasks line.lane _ keeps.tasks (has other).0, all_kept old.labels new.labels line.lane _ keeps.labels (has other).1))
+      (λ line has other.
+      (all_kept old.tasks new.tasks line.lane _ keeps.tasks (has other).0, all_kept old.labels new.labels line.lane _ keeps.labels (has other).1))
       lines sound.owned;
 }
 
@@ -73,7 +78,8 @@ both true b h = (refl, h)
 both false b h = absurd (cc)
 
 -- what a line may name is its lane's once it is named
-named_by : (lanes : Lanes) (by : Option ℕ) (content : Content) (setup : Bool) → lanes.current ≢ 0 → (lanes.current == 0) ≡ setup → may_name lanes by content ≡ true
+named_by : (lanes : Lanes) (by : Option ℕ) (content : Content) (setup : Bool) → lanes.current ≢ 0 → (lanes.current == 0) ≡ setup
+    → may_name lanes by content ≡ true
     → (let after = naming lanes by content in HasAll after.tasks lanes.current (cons_option by []) × HasAll after.labels lanes.current (labels content))
 named_by lanes by content true other is apart = absurd (grind (arith, nat_tests))
 named_by lanes by content false other is apart =

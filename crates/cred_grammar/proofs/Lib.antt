@@ -1,3 +1,5 @@
+pub mod IdLists
+pub mod ModeWords
 pub mod Own
 pub mod LanesOfLines
 pub mod Steps

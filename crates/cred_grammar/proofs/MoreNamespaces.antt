@@ -1,5 +1,6 @@
 -- A file or a namespace more leaves those that were declared before it.
-use Rattle.std.proofs.Common.{◌≡◌, ℕ, ◌==◌, ◌+◌, ◌<◌, Bool, true, false, cond, List, [], ◌∷◌, ◌++◌, length, IsSome, Option, None, Some, refl, length-append, arith}
+use Rattle.std.proofs.Common.{◌≡◌, ℕ, ◌==◌, ◌+◌, ◌<◌, Bool, true, false, cond, List, [], ◌∷◌, ◌++◌, length, IsSome, Option, None, Some, refl, length-append}
+use Rattle.std.proofs.Common.{arith}
 use Rattle.std.specs.Option.{option_map, option_or}
 use Rattle.std.proofs.lemmas.List.Elements.{All-weaker}
 use Rattle.std.proofs.lemmas.List.Folds.{find-append}
@@ -18,14 +19,16 @@ there false None more some = absurd (cc)
 still_there : (declared : List Namespace) (ns : Namespace) (number : ℕ) → IsSome (chain_in declared number) → IsSome (chain_in (declared ++ ns ∷ []) number)
 still_there declared ns number some = rw (find-append (λ ns. ns.number == number) declared (ns ∷ [])) (there (number == 0) _ _ some)
 
-line_sound : (count : ℕ) (declared : List Namespace) (ns : Namespace) (line : Line) → IsSoundLine count declared line → IsSoundLine count (declared ++ ns ∷ []) line
+line_sound : (count : ℕ) (declared : List Namespace) (ns : Namespace) (line : Line) → IsSoundLine count declared line
+    → IsSoundLine count (declared ++ ns ∷ []) line
 line_sound count declared ns line sound = record {
   lane = sound.lane;
   labels = sound.labels;
   content = record {
     files = sound.content.files;
     namespaces =
-        All-weaker (λ number. IsSome (chain_in declared number)) (λ number. IsSome (chain_in (declared ++ ns ∷ []) number)) (still_there declared ns) (namespaces line.content)
+        All-weaker (λ number. IsSome (chain_in declared number)) (λ number. IsSome (chain_in (declared ++ ns ∷ []) number)) (still_there declared ns)
+        (namespaces line.content)
         sound.content.namespaces;
     modes = sound.content.modes;
   };

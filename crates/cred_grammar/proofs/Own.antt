@@ -1,6 +1,7 @@
 -- What is true of each line that the grammar gives: its labels are small, what it names is declared,
 -- and the task that acts by it is the one that it is tested for.
-use Rattle.std.proofs.Common.{◌≡◌, ℕ, ◌≤◌, ◌<◌, Bool, true, false, not, ◌&&◌, ◌==◌, nat_le, nat_lt, cond, List, [], ◌∷◌, length, Option, Some, None, is_some, Result, Ok, Err, ok_or, codes, refl, subst, arith}
+use Rattle.std.proofs.Common.{◌≡◌, ℕ, ◌≤◌, ◌<◌, Bool, true, false, not, ◌&&◌, ◌==◌, nat_le, nat_lt, cond, List, [], ◌∷◌, length, Option, Some, None, is_some}
+use Rattle.std.proofs.Common.{Result, Ok, Err, ok_or, codes, refl, subst, arith}
 use Rattle.std.specs.List.{All, list_all}
 use Rattle.std.specs.Option.{IfSome, IsSome, option_and_then}
 use Rattle.std.specs.Result.{IfOk}
@@ -8,6 +9,7 @@ use Rattle.std.proofs.lemmas.Bool.Decides.{nat_tests}
 use Rattle.std.proofs.lemmas.List.Elements.{All-nil, All-cons}
 use Rattle.std.proofs.lemmas.List.Sums.{AllPass-from_list_all}
 use Rattle.cred_ids.specs.Limits.{LAST_LANE, FILES, LAST_NUMBER}
+use Rattle.cred_ids.specs.Tests.{◌>>=◌}
 use Rattle.cred_event.specs.declared.event.Event.{Event}
 use Rattle.cred_event.specs.declared.event.Side.{Side}
 use Rattle.cred_event.specs.declared.content.Content.{Content}
@@ -15,7 +17,7 @@ use Rattle.cred_event.specs.declared.content.Content.TheVariants.{One}
 use Rattle.cred_model.specs.Script.{NamedFile, Namespace, chain_in}
 use Rattle.cred_record.specs.File.{IsMode}
 use Rattle.cred_model.specs.Named.{files, namespaces, modes, event_modes, call_modes, AreModes, IsContentOf}
-use Rattle.cred_model.specs.Changing.{line_changes}
+use Rattle.cred_model.specs.FileChanges.{line_changes}
 use Rattle.cred_spelling.specs.declared.names.Form.{Form}
 use Rattle.cred_spelling.specs.declared.names.Form.TheVariants as form
 use Rattle.cred_spelling.specs.declared.names.EventName.{EventName}
@@ -34,21 +36,21 @@ use Rattle.cred_spelling.specs.Spellings.{arg_of, bytes_of, mode_of}
 use Rattle.cred_spelling.specs.Spellings.{letter, number_of, within, id_of, cap_of, spelled_label}
 use Rattle.cred_spelling.specs.Spellings.{spelled_task, spelled_process, descriptor_of, line_number_of}
 use Rattle.cred_spelling.specs.Spellings.{lane_number_of, namespace_of, new_namespace_of, parent_of}
-use Rattle.cred_spelling.specs.Words.{◌>>=◌, word_of, no_words, one_of, two_of, three_of, five_of}
-use Rattle.cred_forms.specs.declared.forms.Parsed.{Parsed}
-use Rattle.cred_forms.specs.declared.forms.Parsed.TheVariants.{Empty, File, Starts, Lane, Holds}
-use Rattle.cred_forms.specs.declared.forms.Parsed.TheVariants as parsed
-use Rattle.cred_forms.specs.Changes.{change_of}
+use Rattle.cred_spelling.specs.Words.{word_of, no_words, one_of, two_of, three_of, five_of}
+use Rattle.cred_grammar.specs.declared.forms.Parsed.{Parsed}
+use Rattle.cred_grammar.specs.declared.forms.Parsed.TheVariants.{Empty, File, Starts, Lane, Holds}
+use Rattle.cred_grammar.specs.declared.forms.Parsed.TheVariants as parsed
+use Rattle.cred_grammar.specs.Changes.{change_of}
 use Rattle.cred_script.specs.Files.{file_place}
-use Rattle.cred_forms.specs.Files.{has_room, file_at, file_of}
-use Rattle.cred_forms.specs.FileCalls.{chown_of, chmod_of, set_attr_of, file_alone, file_call_of}
-use Rattle.cred_forms.specs.Records.{record_of}
-use Rattle.cred_forms.specs.IdCalls.{id_call_of}
-use Rattle.cred_forms.specs.Modes.{look_mode}
-use Rattle.cred_forms.specs.Questions.{query_of, query_named, file_and_want}
-use Rattle.cred_forms.specs.Calls.{open_call, capset_raw_of, raw_of, other_of, call_of, content_of}
-use Rattle.cred_forms.specs.Forms.{take_of, take_file_of, ask_of, alter_of, override_of, begin_of, event_of, parse_form}
-use Rattle.cred_forms.proofs.ModeWords.{mode_is}
+use Rattle.cred_grammar.specs.Files.{has_room, file_at, file_of}
+use Rattle.cred_grammar.specs.FileCalls.{chown_of, chmod_of, set_attr_of, file_alone, file_call_of}
+use Rattle.cred_grammar.specs.Records.{record_of}
+use Rattle.cred_grammar.specs.IdCalls.{id_call_of}
+use Rattle.cred_grammar.specs.Modes.{look_mode}
+use Rattle.cred_grammar.specs.Questions.{query_of, query_named, file_and_want}
+use Rattle.cred_grammar.specs.Calls.{open_call, capset_raw_of, raw_of, other_of, call_of, content_of}
+use Rattle.cred_grammar.specs.Forms.{take_of, take_file_of, ask_of, alter_of, override_of, begin_of, event_of, parse_form}
+use Rattle.cred_grammar.proofs.ModeWords.{mode_is}
 use Rattle.cred_script.specs.Acting.{event_actor, actor}
 use Rattle.cred_names.specs.Labels.{event_labels, labels}
 use Rattle.cred_names.specs.Owners.{may_name}
@@ -134,13 +136,15 @@ label_second also (a ∷ b ∷ []) = skip _ (word_of also a) _ (λ x. after IsLa
 label_second also (a ∷ b ∷ c ∷ words) = record { is = tt }
 
 -- a label, another word, and a label
-label_first_and_last : {B : Type 0} (also : List ℕ → Option B) (words : List (List ℕ)) → Good (λ word. IsLabel word.0 × IsLabel word.2) (three_of spelled_label also spelled_label words)
+label_first_and_last : {B : Type 0} (also : List ℕ → Option B) (words : List (List ℕ))
+    → Good (λ word. IsLabel word.0 × IsLabel word.2) (three_of spelled_label also spelled_label words)
 unfolding three_of
 label_first_and_last also [] = record { is = tt }
 label_first_and_last also (a ∷ []) = record { is = tt }
 label_first_and_last also (a ∷ b ∷ []) = record { is = tt }
 label_first_and_last also (a ∷ b ∷ c ∷ []) =
-    after IsLabel _ _ _ (label_good a) (λ first fits. skip _ (word_of also b) _ (λ y. after IsLabel _ _ _ (label_good c) (λ last fit. record { is = (fits, fit) })))
+    after IsLabel _ _ _ (label_good a)
+    (λ first fits. skip _ (word_of also b) _ (λ y. after IsLabel _ _ _ (label_good c) (λ last fit. record { is = (fits, fit) })))
 label_first_and_last also (a ∷ b ∷ c ∷ d ∷ words) = record { is = tt }
 
 -- ---- events
@@ -158,7 +162,8 @@ one : (label : ℕ) → IsLabel label → All IsLabel (label ∷ [])
 one label fits = All-cons IsLabel label [] fits none
 
 -- an event of one label
-of_label : (event : Event) (label : ℕ) → event_labels event ≡ label ∷ [] → event_modes event ≡ [] → IsLabel label → Good OwnEvent (let r : Result Event Reason = Ok event in r)
+of_label : (event : Event) (label : ℕ) → event_labels event ≡ label ∷ [] → event_modes event ≡ [] → IsLabel label
+    → Good OwnEvent (let r : Result Event Reason = Ok event in r)
 of_label event label labels_are modes_are fits = record { is = (rw labels_are (one label fits), rw modes_are no_modes) }
 
 own_take : (side : Side) (words : List (List ℕ)) → Good OwnEvent (take_of side words)
@@ -193,7 +198,8 @@ unfolding begin_of
 own_begin [] = record { is = tt }
 own_begin (caller ∷ []) = record { is = tt }
 own_begin (caller ∷ called ∷ words) =
-    skip OwnEvent (ok_or (id_name called) Word) _ (λ kind. skip OwnEvent (id_call_of kind words) _ (λ made. skip OwnEvent (word_of spelled_task caller) _ (λ task. record { is = (none, no_modes) })))
+    skip OwnEvent (ok_or (id_name called) Word) _
+    (λ kind. skip OwnEvent (id_call_of kind words) _ (λ made. skip OwnEvent (word_of spelled_task caller) _ (λ task. record { is = (none, no_modes) })))
 
 own_event : (files : List NamedFile) (event : EventName) (words : List (List ℕ)) → Good OwnEvent (event_of files event words)
 unfolding event_of
@@ -229,7 +235,8 @@ own_open files task [] = record { is = tt }
 own_open files task (name ∷ []) = record { is = tt }
 own_open files task (name ∷ want ∷ []) = record { is = tt }
 own_open files task (name ∷ want ∷ descriptor ∷ []) =
-    skip (OwnContent (Some task)) (file_and_want files (name ∷ want ∷ [])) _ (λ asked. skip (OwnContent (Some task)) (word_of descriptor_of descriptor) _ (λ fd. record { is = (none, refl, no_modes) }))
+    skip (OwnContent (Some task)) (file_and_want files (name ∷ want ∷ [])) _
+    (λ asked. skip (OwnContent (Some task)) (word_of descriptor_of descriptor) _ (λ fd. record { is = (none, refl, no_modes) }))
 own_open files task (name ∷ want ∷ descriptor ∷ more ∷ words) = record { is = tt }
 
 own_capset_raw : (task : ℕ) (words : List (List ℕ)) → Good (OwnContent (Some task)) (capset_raw_of task words)
@@ -240,7 +247,8 @@ own_raw : (task : ℕ) (words : List (List ℕ)) → Good (OwnContent (Some task
 unfolding raw_of
 own_raw task [] = record { is = tt }
 own_raw task (called ∷ words) =
-    skip (OwnContent (Some task)) (ok_or (id_name called) Word) _ (λ kind. skip (OwnContent (Some task)) (id_call_of kind words) _ (λ made. record { is = (none, refl, no_modes) }))
+    skip (OwnContent (Some task)) (ok_or (id_name called) Word) _
+    (λ kind. skip (OwnContent (Some task)) (id_call_of kind words) _ (λ made. record { is = (none, refl, no_modes) }))
 
 own_other : (files : List NamedFile) (task : ℕ) (called : OtherName) (words : List (List ℕ)) → Good (OwnContent (Some task)) (other_of files task called words)
 unfolding other_of
@@ -250,7 +258,8 @@ own_other files task other.Fcap words = skip (OwnContent (Some task)) (two_of de
 own_other files task other.Access words = skip (OwnContent (Some task)) (file_and_want files words) _ (λ asked. record { is = (none, refl, no_modes) })
 own_other files task other.Signal words = skip (OwnContent (Some task)) (one_of spelled_task words) _ (λ to. record { is = (none, refl, no_modes) })
 own_other files task other.Spawn words = skip (OwnContent (Some task)) (one_of spelled_task words) _ (λ child. record { is = (none, refl, no_modes) })
-own_other files task other.Fork words = skip (OwnContent (Some task)) (two_of spelled_task spelled_process words) _ (λ word. record { is = (none, refl, no_modes) })
+own_other files task other.Fork words =
+    skip (OwnContent (Some task)) (two_of spelled_task spelled_process words) _ (λ word. record { is = (none, refl, no_modes) })
 own_other files task other.Exit words = skip (OwnContent (Some task)) (no_words words) _ (λ end. record { is = (none, refl, no_modes) })
 own_other files task other.Dumpable words = skip (OwnContent (Some task)) (one_of number_of words) _ (λ value. record { is = (none, refl, no_modes) })
 own_other files task other.Dumped words = skip (OwnContent (Some task)) (no_words words) _ (λ end. record { is = (none, refl, no_modes) })
@@ -259,7 +268,8 @@ own_other files task other.CapsetRaw words = own_capset_raw task words
 own_other files task other.Raw words = own_raw task words
 
 -- a call on a file
-own_file_call : (files : List NamedFile) (called : FileCallName) (words : List (List ℕ)) → Good (λ made. AreModes (call_modes made)) (file_call_of files called words)
+own_file_call : (files : List NamedFile) (called : FileCallName) (words : List (List ℕ))
+    → Good (λ made. AreModes (call_modes made)) (file_call_of files called words)
 unfolding file_call_of chown_of chmod_of set_attr_of file_alone
 own_file_call files file_call.Chown (a ∷ b ∷ c ∷ []) =
     skip _ (file_at files a) _ (λ place. skip _ (two_of arg_of arg_of (b ∷ c ∷ [])) _ (λ ids. record { is = no_modes }))
@@ -276,7 +286,8 @@ own_file_call files called words = record { is = tt }
 own_call : (files : List NamedFile) (task : ℕ) (called : CallName) (words : List (List ℕ)) → Good (OwnContent (Some task)) (call_of files task called words)
 unfolding call_of
 own_call files task (call.Id called) words = skip (OwnContent (Some task)) (id_call_of called words) _ (λ made. record { is = (none, refl, no_modes) })
-own_call files task (call.Change changed) words = skip (OwnContent (Some task)) (change_of files changed words) _ (λ made. record { is = (none, refl, no_modes) })
+own_call files task (call.Change changed) words =
+    skip (OwnContent (Some task)) (change_of files changed words) _ (λ made. record { is = (none, refl, no_modes) })
 own_call files task (call.Question asked) words = skip (OwnContent (Some task)) (query_of files asked words) _ (λ query. record { is = (none, refl, no_modes) })
 own_call files task (call.Other called) words = own_other files task called words
 own_call files task (call.File called) words =
@@ -304,7 +315,8 @@ unfolding file_of
 own_file declared words = after _ _ _ _ (room declared) (λ end test. always _ (grind (arith, nat_tests)) _)
 
 -- the number of a lane is one
-between : (a b : Bool) (n least most : ℕ) → nat_le least n ≡ a → nat_le n most ≡ b → IfSome (cond (a && b) (Some n) None) (λ number. (least ≤ number) × (number ≤ most))
+between : (a b : Bool) (n least most : ℕ) → nat_le least n ≡ a → nat_le n most ≡ b
+    → IfSome (cond (a && b) (Some n) None) (λ number. (least ≤ number) × (number ≤ most))
 between false b n least most low high = tt
 between true false n least most low high = tt
 between true true n least most low high = (grind (arith, nat_tests), grind (arith, nat_tests))
@@ -324,12 +336,14 @@ itself (Some task) = refl
 
 own_form : (declared : List NamedFile) (named : Form) (words : List (List ℕ)) → Good (OwnLine declared) (parse_form declared named words)
 unfolding parse_form
-own_form declared form.Init words = skip _ (five_of spelled_task spelled_process id_of id_of namespace_of words) _ (λ word. record { is = (refl, refl, refl, no_modes) })
+own_form declared form.Init words =
+    skip _ (five_of spelled_task spelled_process id_of id_of namespace_of words) _ (λ word. record { is = (refl, refl, refl, no_modes) })
 own_form declared form.File words = after _ _ _ _ (own_file declared words) (λ file few. record { is = few })
 own_form declared form.Namespace words = skip _ (three_of new_namespace_of id_of parent_of words) _ (λ word. record { is = tt })
 own_form declared form.Lane words = after _ _ _ _ (one_lane words) (λ number range. record { is = range })
 own_form declared (form.Task task) words = after _ _ _ _ (own_content declared task words) (λ content own. record { is = own })
-own_form declared (form.Event named) words = after _ _ _ _ (own_event declared named words) (λ event own. record { is = (own.0, itself (event_actor event), own.1) })
+own_form declared (form.Event named) words =
+    after _ _ _ _ (own_event declared named words) (λ event own. record { is = (own.0, itself (event_actor event), own.1) })
 
 -- ---- names
 
@@ -358,7 +372,8 @@ declares reading content h fit =
       modes = fit;
     }
 
-parsed_line : (reading : Reading) (line : Parsed) → OwnLine reading.files line → (has_names reading line ≡ true) × (is_apart reading line ≡ true) → IsParsed reading line
+parsed_line : (reading : Reading) (line : Parsed) → OwnLine reading.files line → (has_names reading line ≡ true) × (is_apart reading line ≡ true)
+    → IsParsed reading line
 parsed_line reading Empty own tests = tt
 parsed_line reading (File file) own tests = (own, no_place (file_place reading.files file.name) tests.0)
 parsed_line reading (parsed.Namespace number root parent) own tests = (both (is_some (chain_in reading.namespaces parent)) _ tests.0).0
@@ -378,17 +393,22 @@ admitted_is reading line fits =
     subst (λ (r : Result (Unit {0}) Reason). IfOk r (λ _. (has_names reading line ≡ true) × (is_apart reading line ≡ true))) fits (admitted reading line).is
 
 -- what a call of the task holds, whatever is declared
-pub call_own : (declared : List NamedFile) (task : ℕ) (words : List (List ℕ)) (content : Content) → content_of declared task words ≡ Ok content → IsOwnLine (Some task) content
+pub call_own : (declared : List NamedFile) (task : ℕ) (words : List (List ℕ)) (content : Content) → content_of declared task words ≡ Ok content
+    → IsOwnLine (Some task) content
 call_own declared task words content is = subst (λ (r : Result Content Reason). IfOk r (OwnContent (Some task))) is (own_content declared task words).is
 
-pub event_own : (declared : List NamedFile) (named : EventName) (words : List (List ℕ)) (event : Event) → event_of declared named words ≡ Ok event → IsOwnLine (event_actor event) (One event)
+pub event_own : (declared : List NamedFile) (named : EventName) (words : List (List ℕ)) (event : Event) → event_of declared named words ≡ Ok event
+    → IsOwnLine (event_actor event) (One event)
 event_own declared named words event is =
     let own = subst (λ (r : Result Event Reason). IfOk r OwnEvent) is (own_event declared named words).is in (own.0, itself (event_actor event), own.1)
 
 -- what may stand after what was read is sound
-pub held : (reading : Reading) (by : Option ℕ) (content : Content) → IsOwnLine by content → admits reading (Holds by content) ≡ Ok tt → IsTaskLine reading by content
+pub held : (reading : Reading) (by : Option ℕ) (content : Content) → IsOwnLine by content → admits reading (Holds by content) ≡ Ok tt
+    → IsTaskLine reading by content
 held reading by content own fits = parsed_line reading (Holds by content) own (admitted_is reading (Holds by content) fits)
 
-pub form_sound : (reading : Reading) (named : Form) (words : List (List ℕ)) (line : Parsed) → parse_form reading.files named words ≡ Ok line → admits reading line ≡ Ok tt → IsParsed reading line
+pub form_sound : (reading : Reading) (named : Form) (words : List (List ℕ)) (line : Parsed) → parse_form reading.files named words ≡ Ok line
+    → admits reading line ≡ Ok tt → IsParsed reading line
 form_sound reading named words line is fits =
-    parsed_line reading line (subst (λ (r : Result Parsed Reason). IfOk r (OwnLine reading.files)) is (own_form reading.files named words).is) (admitted_is reading line fits)
+    parsed_line reading line (subst (λ (r : Result Parsed Reason). IfOk r (OwnLine reading.files)) is (own_form reading.files named words).is)
+    (admitted_is reading line fits)

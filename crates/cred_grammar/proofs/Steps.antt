@@ -1,10 +1,10 @@
 -- One more line of a script.
 use Rattle.std.proofs.Common.{◌≡◌, ℕ, ◌+◌, List, ◌∷◌, length, Result, Ok, Err, refl, ap, length-append}
 use Rattle.cred_spelling.specs.declared.reason.Reason.{Reason}
-use Rattle.cred_spelling.specs.Words.{◌>>=◌}
-use Rattle.cred_forms.specs.declared.forms.Parsed.{Parsed}
-use Rattle.cred_forms.specs.declared.forms.Parsed.TheVariants.{Empty, File, Starts, Lane, Holds}
-use Rattle.cred_forms.specs.declared.forms.Parsed.TheVariants as parsed
+use Rattle.cred_ids.specs.Tests.{◌>>=◌}
+use Rattle.cred_grammar.specs.declared.forms.Parsed.{Parsed}
+use Rattle.cred_grammar.specs.declared.forms.Parsed.TheVariants.{Empty, File, Starts, Lane, Holds}
+use Rattle.cred_grammar.specs.declared.forms.Parsed.TheVariants as parsed
 use Rattle.cred_grammar.specs.Grammar.{parse_line, add_line, at_line, add_lines}
 use Rattle.cred_grammar.specs.Reading.{Reading, keep}
 

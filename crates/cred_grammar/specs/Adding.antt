@@ -4,12 +4,12 @@ use Rattle.cred_event.specs.declared.content.Content.TheVariants.{One}
 use Rattle.cred_model.specs.Script.{NamedFile}
 use Rattle.cred_spelling.specs.declared.names.EventName.{EventName}
 use Rattle.cred_spelling.specs.declared.reason.Reason.{Reason}
-use Rattle.cred_spelling.specs.Words.{◌>>=◌}
-use Rattle.cred_forms.specs.declared.forms.Parsed.{Parsed}
-use Rattle.cred_forms.specs.declared.forms.Parsed.TheVariants.{Holds}
+use Rattle.cred_ids.specs.Tests.{◌>>=◌}
+use Rattle.cred_grammar.specs.declared.forms.Parsed.{Parsed}
+use Rattle.cred_grammar.specs.declared.forms.Parsed.TheVariants.{Holds}
 use Rattle.cred_script.specs.Acting.{event_actor}
-use Rattle.cred_forms.specs.Calls.{content_of}
-use Rattle.cred_forms.specs.Forms.{event_of}
+use Rattle.cred_grammar.specs.Calls.{content_of}
+use Rattle.cred_grammar.specs.Forms.{event_of}
 use Rattle.cred_grammar.specs.Reading.{Reading, admits, keep}
 
 -- a line, if it may stand after what was read

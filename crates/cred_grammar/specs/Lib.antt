@@ -1,6 +1,15 @@
+pub mod Files
+pub mod IdCalls
+pub mod Changes
+pub mod Questions
+pub mod Modes
+pub mod FileCalls
+pub mod Records
+pub mod Calls
+pub mod Forms
+pub mod ReadAnswers
 pub mod Reading
 pub mod Grammar
 pub mod FirstBad
 pub mod Sound
-pub mod Read
 pub mod Adding

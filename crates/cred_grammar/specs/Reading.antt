@@ -7,14 +7,14 @@ use Rattle.cred_event.specs.declared.content.Content.{Content}
 use Rattle.cred_event.specs.declared.content.Content.TheVariants.{Nothing}
 use Rattle.cred_model.specs.Script.{Line, NamedFile, Namespace, Script, chain_in}
 use Rattle.cred_model.specs.Named as named
-use Rattle.cred_model.specs.Changing.{line_changes}
+use Rattle.cred_model.specs.FileChanges.{line_changes}
 use Rattle.cred_spelling.specs.declared.reason.Reason.{Reason}
 use Rattle.cred_spelling.specs.declared.reason.Reason.TheVariants.{Order, Name}
 use Rattle.cred_spelling.specs.declared.reason.Reason.TheVariants as reason
-use Rattle.cred_spelling.specs.Words.{◌>>=◌}
-use Rattle.cred_forms.specs.declared.forms.Parsed.{Parsed}
-use Rattle.cred_forms.specs.declared.forms.Parsed.TheVariants.{Empty, File, Starts, Lane, Holds}
-use Rattle.cred_forms.specs.declared.forms.Parsed.TheVariants as parsed
+use Rattle.cred_ids.specs.Tests.{◌>>=◌}
+use Rattle.cred_grammar.specs.declared.forms.Parsed.{Parsed}
+use Rattle.cred_grammar.specs.declared.forms.Parsed.TheVariants.{Empty, File, Starts, Lane, Holds}
+use Rattle.cred_grammar.specs.declared.forms.Parsed.TheVariants as parsed
 use Rattle.cred_script.specs.Files.{file_place}
 use Rattle.cred_names.specs.Owners.{Lanes, no_lanes, may_name, naming}
 use Rattle.cred_names.specs.Namespaces.{with_namespace}

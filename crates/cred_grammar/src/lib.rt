@@ -1,20 +1,42 @@
-//! The grammar of trace scripts, and their reader.
+//! The grammar of scripts, and the reader that makes a script of bytes, or names its first bad
+//! line.
 //!
 //! What text is a script, and which script it is, is defined in `specs/`: a script is its lines,
-//! added one after another to what was read before them. `Reading` says what was read before a
-//! line, what that asks of the line and what the line adds to it. `Grammar` puts these together,
-//! and `read` answers exactly that; `Adding` names the steps between. `Sound` says what is true of
-//! what was read. What is true of each script stands in `cred_script`; what the words of each form
-//! are, and what a line then declares or holds, in `cred_forms`; which lane has which tasks and
-//! labels, and the namespaces, in `cred_names`; how a text is split, what a word spells and the
-//! tables of keywords in `cred_spelling`.
+//! added one after another to what was read before them. Which words each form of a line has, and
+//! what the line then declares or holds, is said by `IdCalls`, `Changes`, `Questions`, `FileCalls`,
+//! `Records` and `Calls`, of what a task does, by `Files`, of the lines that declare files and of
+//! how a word names one, and by `Forms`, of all forms. `Reading` says what was read before a line,
+//! what that asks of the line and what the line adds to it. `Grammar` puts these together, and
+//! `read` answers exactly that; `Adding` names the steps between. `Sound` says what is true of what
+//! was read.
+//!
+//! What is true of each script stands in `cred_script`; which lane has which tasks and labels, and
+//! the namespaces, in `cred_names`; how a text is split, what a word spells and the tables of
+//! keywords in `cred_spelling`.
 #![tactic(auto)]
 
-mod reader;
+mod calls;
+mod changes;
+mod file_calls;
+mod file_line;
+mod forms;
+mod id_calls;
+mod modes;
+mod named;
+mod questions;
 mod reading;
+mod records;
 mod refusal;
+mod script;
 mod uses;
 
+pub use changes::change_of;
 pub use cred_spelling::{Reason, line_count};
-pub use reader::read;
-pub use refusal::ScriptRefusal;
+pub use file_calls::file_call_of;
+pub use forms::Parsed;
+pub use id_calls::{id_call_of, ids};
+pub use modes::AccessMode;
+pub use named::file_at;
+pub use questions::query_named;
+pub use refusal::{LineRefusal, ScriptRefusal};
+pub use script::read;

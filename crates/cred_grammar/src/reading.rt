@@ -5,21 +5,21 @@ ghost use Rattle.cred_model.specs.Script.{SetupFirst};
 ghost use Rattle.cred_spelling.specs.Lines.{is_printable};
 ghost use Rattle.cred_spelling.specs.Read.{Says, nows};
 ghost use Rattle.cred_spelling.specs.Words.{line_words};
-ghost use Rattle.cred_forms.specs.Read.{GivesLine};
+ghost use Rattle.cred_grammar.specs.ReadAnswers.{GivesLine, ReadsAs};
 ghost use Rattle.cred_grammar.specs.Grammar as grammar;
 ghost use Rattle.cred_grammar.specs.Adding.{adding, called, fitting, event_line};
 ghost use Rattle.cred_grammar.specs.Grammar.{at_line};
-ghost use Rattle.cred_forms.specs.Forms.{parse_form};
-ghost use Rattle.cred_grammar.specs.Read.{ReadsAs};
+ghost use Rattle.cred_grammar.specs.Forms.{parse_form};
 ghost use Rattle.cred_grammar.specs.Reading as spec;
 ghost use Rattle.cred_grammar.specs.Sound.{IsTaskLine, IsNextLine, IsOwnLine, IsParsed};
-ghost use Rattle.cred_forms.specs.declared.forms.Parsed.TheVariants as parsed;
+ghost use Rattle.cred_grammar.specs.declared.forms.Parsed.TheVariants as parsed;
 ghost use Rattle.cred_event.specs.declared.content.Content.TheVariants.{Nothing};
 
-use crate::refusal::ScriptRefusal;
+use crate::calls::content_of;
+use crate::forms::{Parsed, event_of, parse_form};
+use crate::refusal::{LineRefusal, ScriptRefusal};
 use crate::uses::{has_files, has_namespaces, may_change};
 use cred_event::Content;
-use cred_forms::{LineRefusal, Parsed, content_of, event_of, parse_form};
 use cred_names::{Lanes, Namespaces};
 use cred_script::{Files, Script, ScriptLine, event_actor};
 use cred_spelling::{EventName, Form, Reason, form_of, is_comment};
@@ -151,7 +151,7 @@ impl Reading {
 
     /// One more line that isn't empty. What it holds goes the shortest way to its place: most lines
     /// hold something.
-    #[tactic(auto, unfolding(crate::specs::Grammar::parse_full, cred_forms::specs::Forms::parse_form))]
+    #[tactic(auto, unfolding(crate::specs::Grammar::parse_full, crate::specs::Forms::parse_form))]
     fn add_full(&mut self, alloc: Global, first: &[u8], words: &[&[u8]]) -> Result<(), LineRefusal>
         requires few { length self.old.lines < LINE_LIMIT }
         ensures { GivesLine (λ _. self.new) result

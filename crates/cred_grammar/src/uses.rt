@@ -1,7 +1,7 @@
 //! The files and the namespaces that a line names, and whether it changes a file.
 ghost use Rattle.std.specs.Prelude.{◌≡◌, []};
 ghost use Rattle.std.specs.List.{cons_option};
-ghost use Rattle.cred_model.specs.Changing as changing;
+ghost use Rattle.cred_model.specs.FileChanges as changing;
 ghost use Rattle.cred_model.specs.Named as named;
 ghost use Rattle.cred_grammar.specs.Reading as spec;
 

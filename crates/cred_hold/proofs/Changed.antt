@@ -1,5 +1,6 @@
 -- A credential with other parts, and its words.
-use Rattle.std.proofs.Common.{◌≡◌, ℕ, ◌+◌, ◌-◌, ◌*◌, ◌%◌, ◌^◌, ◌<◌, ◌≤◌, List, ◌∷◌, [], length, take, slice_index, Option, Some, None, true, refl, sym, ap, ◌∙◌, arith}
+use Rattle.std.proofs.Common.{◌≡◌, ℕ, ◌+◌, ◌-◌, ◌*◌, ◌%◌, ◌^◌, ◌<◌, ◌≤◌, List, ◌∷◌, [], length, take, slice_index, Option, Some, None, true, refl, sym, ap, ◌∙◌}
+use Rattle.std.proofs.Common.{arith}
 use Rattle.std.specs.Prelude.{IfSome}
 use Rattle.cred_ids.specs.Groups.{IsGroupList}
 use Rattle.cred_ids.specs.Limits.{GROUP_LIMIT}
@@ -16,7 +17,8 @@ pub record AreCaps (own : Parts) : Type 0 where
   pub eff : own.eff < 2 ^ 41
   pub amb : own.amb < 2 ^ 41
 
-with-groups : (c : Credential) (own : Parts) (gs : List ℕ) → IsCredential c → are_ids own.uid ≡ true → are_ids own.gid ≡ true → AreCaps own → AreValidSets own.perm c.inh own.eff own.amb → AllGroups gs → IsCredential (record (with_parts c own) { groups = gs })
+with-groups : (c : Credential) (own : Parts) (gs : List ℕ) → IsCredential c → are_ids own.uid ≡ true → are_ids own.gid ≡ true → AreCaps own
+    → AreValidSets own.perm c.inh own.eff own.amb → AllGroups gs → IsCredential (record (with_parts c own) { groups = gs })
 with-groups c own gs is uid gid caps valid groups =
     let v = credential-is c is in
     credential-test _ record {
@@ -29,12 +31,14 @@ with-groups c own gs is uid gid caps valid groups =
       root = v.root;
     }
 
-pub changed-is : (c : Credential) (own : Parts) (groups : Option (List ℕ)) → IsCredential c → are_ids own.uid ≡ true → are_ids own.gid ≡ true → AreCaps own → AreValidSets own.perm c.inh own.eff own.amb → IfSome groups IsGroupList → IsCredential (changed c own groups)
+pub changed-is : (c : Credential) (own : Parts) (groups : Option (List ℕ)) → IsCredential c → are_ids own.uid ≡ true → are_ids own.gid ≡ true → AreCaps own
+    → AreValidSets own.perm c.inh own.eff own.amb → IfSome groups IsGroupList → IsCredential (changed c own groups)
 changed-is c own None is uid gid caps valid groups = with-groups c own c.groups is uid gid caps valid (credential-is c is).groups
 changed-is c own (Some gs) is uid gid caps valid groups = with-groups c own gs is uid gid caps valid (all-groups gs groups)
 
 -- the word of flags with another number of groups
-pub flags-changed : (c : Credential) (own : Parts) (gs : List ℕ) (n flags : ℕ) → IsCredential c → flags ≡ flags_word c → n ≡ length gs → n * 2 ^ 16 + flags % 2 ^ 16 ≡ flags_word (changed c own (Some gs))
+pub flags-changed : (c : Credential) (own : Parts) (gs : List ℕ) (n flags : ℕ) → IsCredential c → flags ≡ flags_word c → n ≡ length gs
+    → n * 2 ^ 16 + flags % 2 ^ 16 ≡ flags_word (changed c own (Some gs))
 flags-changed c own gs n flags is flags_is n_is =
     let bits = (credential-is c is).bits in
     let nnp = from_bool-small c.nnp in
@@ -63,13 +67,17 @@ copied ws is = record {
 }
 
 -- the words before those of groups
-pub head-changed : (c : Credential) (own : Parts) (groups : Option (List ℕ)) → take GROUPS (words_of (changed c own groups)) ≡ pair own.uid.real own.uid.effective ∷ pair own.uid.saved own.uid.fs ∷ pair own.gid.real own.gid.effective ∷ pair own.gid.saved own.gid.fs ∷ own.perm ∷ c.inh ∷ own.eff ∷ c.bound ∷ own.amb ∷ flags_word (changed c own groups) ∷ c.ns ∷ c.root ∷ []
+pub head-changed : (c : Credential) (own : Parts) (groups : Option (List ℕ))
+    → take GROUPS (words_of (changed c own groups))
+    ≡ pair own.uid.real own.uid.effective ∷ pair own.uid.saved own.uid.fs ∷ pair own.gid.real own.gid.effective ∷ pair own.gid.saved own.gid.fs ∷ own.perm
+    ∷ c.inh ∷ own.eff ∷ c.bound ∷ own.amb ∷ flags_word (changed c own groups) ∷ c.ns ∷ c.root ∷ []
 unfolding words_of
 head-changed c own None = refl
 head-changed c own (Some gs) = refl
 
 -- the words of groups that are copied
-pub group-copied : (ws : List ℕ) (own : Parts) (i : ℕ) → are_words ws ≡ true → i < WORDS - GROUPS → slice_index ws (GROUPS + i) ≡ slice_index (words_of (changed (credential_in ws) own None)) (GROUPS + i)
+pub group-copied : (ws : List ℕ) (own : Parts) (i : ℕ) → are_words ws ≡ true → i < WORDS - GROUPS
+    → slice_index ws (GROUPS + i) ≡ slice_index (words_of (changed (credential_in ws) own None)) (GROUPS + i)
 group-copied ws own i is within =
     ap (λ (xs : List ℕ). slice_index xs (GROUPS + i)) (words-are ws is).1 ∙
     at_group (credential_in ws) i within ∙
@@ -82,12 +90,14 @@ count-there d is =
     let nnp = from_bool-small d.nnp in
     omega arith
 
-pub count-changed : (d : Credential) (first : List ℕ) → IsCredential d → first ≡ take GROUPS (words_of d) → (group_count (slice_index first FLAGS) ≡ length d.groups) × (length d.groups ≤ GROUP_LIMIT)
+pub count-changed : (d : Credential) (first : List ℕ) → IsCredential d → first ≡ take GROUPS (words_of d)
+    → (group_count (slice_index first FLAGS) ≡ length d.groups) × (length d.groups ≤ GROUP_LIMIT)
 unfolding words_of
 count-changed d first is first_is = (
   ap (λ (xs : List ℕ). group_count (slice_index xs FLAGS)) first_is ∙ count-there d is,
   (credential-is d is).groups.few,
 )
 
-pub valid-known : (ws : List ℕ) → are_words ws ≡ true → AreValidSets (credential_in ws).perm (credential_in ws).inh (credential_in ws).eff (credential_in ws).amb
+pub valid-known : (ws : List ℕ) → are_words ws ≡ true
+    → AreValidSets (credential_in ws).perm (credential_in ws).inh (credential_in ws).eff (credential_in ws).amb
 valid-known ws is = (credential-is (credential_in ws) (words-are ws is).0).sets.valid

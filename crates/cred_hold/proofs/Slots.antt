@@ -1,5 +1,6 @@
--- The slots and entries of a master, as contracts see them.
-use Rattle.std.proofs.Common.{length-append, ◌≡◌, ◌≢◌, zero, suc, ◌+◌, ◌<◌, ℕ, List, ◌∷◌, [], map, replicate, take, drop, length, set, Some, None, Bool, true, false, refl, sym, ap, ◌∙◌, subst, ⊎_elim, arith}
+-- The slots and loans of a master, as contracts see them.
+use Rattle.std.proofs.Common.{length-append, ◌≡◌, ◌≢◌, zero, suc, ◌+◌, ◌<◌, ℕ, List, ◌∷◌, [], map, replicate, take, drop, length, set, Some, None, Bool, true}
+use Rattle.std.proofs.Common.{false, refl, sym, ap, ◌∙◌, subst, ⊎_elim, arith}
 use Rattle.std.specs.Prelude.{slice_get, slice_index, not, ◌&&◌, if◌then◌else◌}
 use Rattle.std.specs.List.{AllByRecursion}
 use Rattle.std.proofs.lemmas.List.{get_or-drop, get_or-take, map-append}
@@ -11,7 +12,7 @@ use Rattle.cred_words.specs.Lists.{IsTaken}
 use Rattle.cred_words.specs.declared.view.Slot.{Slot}
 use Rattle.cred_words.specs.declared.view.Token.{Token}
 use Rattle.cred_words.specs.declared.view.Ledger.{Ledger}
-use Rattle.cred_words.specs.Words.{slot_of, slots_back, words_at, as_entry, FitsAs, EntryFits}
+use Rattle.cred_words.specs.Words.{slot_of, slots_back, words_at, as_loan, FitsAs, LoanFits}
 use Rattle.cred_words.specs.Seen as words
 use Rattle.cred_words.proofs.Lists.{words_at-get, get_set}
 use Rattle.cred_words.proofs.Opens.{width_is}
@@ -19,7 +20,8 @@ use Rattle.cred_words.proofs.Seats.{slot_there}
 use Rattle.cred_hold.specs.Tokens.{loan, seen_if, loan_seen, slot_seen, AreSlots, IsAlone}
 use Rattle.cred_hold.proofs.Whole.{length-known}
 
-pub sealed_words : (d : Ledger) (slot : ℕ) → AreSlots d.slots → words.IsSealedSlot d slot → (length (words_at d.slots slot) ≡ width) × (are_words (words_at d.slots slot) ≡ true)
+pub sealed_words : (d : Ledger) (slot : ℕ) → AreSlots d.slots → words.IsSealedSlot d slot
+    → (length (words_at d.slots slot) ≡ width) × (are_words (words_at d.slots slot) ≡ true)
 sealed_words d slot all h =
     let are = ap are_words (words_at-get d.slots slot h.0 h.1) ∙ all slot h.0 h.1 in
     (length-known _ are ∙ sym width_is, are)
@@ -40,7 +42,8 @@ slots_after_back slots t put all are = by t.writes
     by true = slots_set slots t.slot (slot_of t.words (put && are_words t.words)) all are
     by false = all
 
-pub after_writer : (slots : List Slot) (slot : ℕ) → slot < length slots → AreSlots slots → AreSlots (set slots slot (slot_of (words_at slots slot) false)) × (are_words (words_at slots slot) ≡ true)
+pub after_writer : (slots : List Slot) (slot : ℕ) → slot < length slots → AreSlots slots
+    → AreSlots (set slots slot (slot_of (words_at slots slot) false)) × (are_words (words_at slots slot) ≡ true)
 after_writer slots slot small all =
     let there = slot_there slots slot small in
     let are : are_words (words_at slots slot) ≡ true = ap are_words (words_at-get slots slot there.0 there.1) ∙ all slot there.0 there.1 in
@@ -49,7 +52,8 @@ after_writer slots slot small all =
 -- ---- as they are seen
 
 -- a slot that is seen to be sealed, sealed with words of that credential
-pub sealed-seen : (slots : List Slot) (slot : ℕ) (c : Credential) → slice_get (map slot_seen slots) slot ≡ Some (Some c) → (x : Slot) × (slice_get slots slot ≡ Some x) × (x.sealed ≡ true) × (credential_in x.words ≡ c)
+pub sealed-seen : (slots : List Slot) (slot : ℕ) (c : Credential) → slice_get (map slot_seen slots) slot ≡ Some (Some c)
+    → (x : Slot) × (slice_get slots slot ≡ Some x) × (x.sealed ≡ true) × (credential_in x.words ≡ c)
 sealed-seen [] slot c at = absurd (cc)
 sealed-seen (x ∷ slots) zero c at = let h = by x.sealed (same_Some _ _ at) in (x, refl, h.0, h.1)
   where
@@ -79,16 +83,16 @@ pub alone-seen : (es : List Token) (slot : ℕ) → IsAlone (map loan_seen es) s
 alone-seen [] slot h = tt
 alone-seen (e ∷ es) slot h = (h.0, alone-seen es slot h.1)
 
-pub hold-seen : (t : Token) → t.writes ≡ false → loan_seen (as_entry t) ≡ loan t.label t.slot (Some (credential_in t.words))
+pub hold-seen : (t : Token) → t.writes ≡ false → loan_seen (as_loan t) ≡ loan t.label t.slot (Some (credential_in t.words))
 hold-seen t is = ap (λ (b : Bool). loan t.label t.slot (seen_if (not b) (if b then [] else t.words))) is
 
-pub writer-seen : (t : Token) → t.writes ≡ true → loan_seen (as_entry t) ≡ loan t.label t.slot None
+pub writer-seen : (t : Token) → t.writes ≡ true → loan_seen (as_loan t) ≡ loan t.label t.slot None
 writer-seen t is = ap (λ (b : Bool). loan t.label t.slot (seen_if (not b) (if b then [] else t.words))) is
 
--- the slot of a hold's entry
-pub hold-slot : (slots : List Slot) (t : Token) → t.writes ≡ false → EntryFits slots (as_entry t) → slice_get slots t.slot ≡ Some (slot_of t.words true)
+-- the slot of a hold's loan
+pub hold-slot : (slots : List Slot) (t : Token) → t.writes ≡ false → LoanFits slots (as_loan t) → slice_get slots t.slot ≡ Some (slot_of t.words true)
 hold-slot slots t is h =
-    let f : FitsAs false slots (as_entry t) = subst (λ b. FitsAs b slots (as_entry t)) is h in
+    let f : FitsAs false slots (as_loan t) = subst (λ b. FitsAs b slots (as_loan t)) is h in
     f ∙ ap (λ (b : Bool). Some (slot_of (if b then [] else t.words) true)) is
 
 -- a writer's slot, which is sealed where a credential was put
@@ -96,9 +100,9 @@ pub put-seen : (put : Bool) (ws : List ℕ) → are_words ws ≡ true → seen_i
 put-seen true ws is = ap (λ b. seen_if b ws) is
 put-seen false ws is = refl
 
-pub slot-there : (slots : List Slot) (t : Token) → t.writes ≡ true → EntryFits slots (as_entry t) → (x : Slot) × (slice_get slots t.slot ≡ Some x)
+pub slot-there : (slots : List Slot) (t : Token) → t.writes ≡ true → LoanFits slots (as_loan t) → (x : Slot) × (slice_get slots t.slot ≡ Some x)
 slot-there slots t is h =
-    let f : FitsAs true slots (as_entry t) = subst (λ b. FitsAs b slots (as_entry t)) is h in
+    let f : FitsAs true slots (as_loan t) = subst (λ b. FitsAs b slots (as_loan t)) is h in
     (slot_of f.0 false, f.1)
 
 -- a word among those that were read

@@ -1,5 +1,6 @@
 -- All the words of a credential, read or put one after another.
-use Rattle.std.proofs.Common.{◌≡◌, ℕ, zero, suc, false, replicate, ◌+◌, ◌*◌, ◌<◌, ◌≤◌, ◌/◌, ◌%◌, List, length, take, min, set, slice_index, ⊎_elim, true, refl, sym, ap, ◌∙◌, subst, arith, length-set}
+use Rattle.std.proofs.Common.{◌≡◌, ℕ, zero, suc, false, replicate, ◌+◌, ◌*◌, ◌<◌, ◌≤◌, ◌/◌, ◌%◌, List, length, take, min, set, slice_index, ⊎_elim, true, refl}
+use Rattle.std.proofs.Common.{sym, ap, ◌∙◌, subst, arith, length-set}
 use Rattle.std.proofs.lemmas.Bool.{cases_lt}
 use Rattle.std.proofs.lemmas.Grind.{div_ceil_times}
 use Rattle.std.proofs.lemmas.Option.{same_Some}
@@ -60,7 +61,8 @@ put_start t u ws is wide =
     let start : PutTo t t ws 0 = record { token = refl; wide = wide; same = refl; rest = λ k from. refl } in
     subst (λ (y : Token). PutTo t y ws 0) (sym is) start
 
-pub put_more : (t u v : Token) (ws : List ℕ) (place x : ℕ) → place < WORDS → length ws ≡ WORDS → x ≡ slice_index ws place → v ≡ put_words u (set u.words place x) → PutTo t u ws place → PutTo t v ws (place + 1)
+pub put_more : (t u v : Token) (ws : List ℕ) (place x : ℕ) → place < WORDS → length ws ≡ WORDS → x ≡ slice_index ws place
+    → v ≡ put_words u (set u.words place x) → PutTo t u ws place → PutTo t v ws (place + 1)
 put_more t u v ws place x small long is put h =
     let wide = h.wide in
     let w : Token = put_words u (set u.words place x) in
@@ -82,7 +84,8 @@ pub record Cleared (t u : Token) (first last i : ℕ) : Type 0 where
   pub zeros : (k : ℕ) → first ≤ k → k < i → slice_index u.words k ≡ 0
   pub rest : (k : ℕ) → i ≤ k → last ≤ k → slice_index u.words k ≡ 0
 
-pub clear_start : (t : Token) (first last : ℕ) → length t.words ≡ width → ((k : ℕ) → first ≤ k → last ≤ k → slice_index t.words k ≡ 0) → Cleared t t first last first
+pub clear_start : (t : Token) (first last : ℕ) → length t.words ≡ width → ((k : ℕ) → first ≤ k → last ≤ k → slice_index t.words k ≡ 0)
+    → Cleared t t first last first
 clear_start t first last wide rest = record {
   from = omega arith;
   token = refl;

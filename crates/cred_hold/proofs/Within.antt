@@ -27,14 +27,15 @@ knows d slot c all at =
     record { sealed = sealed; wide = w.0; are = w.1; cred = ap credential_in (words_at-get d.slots slot x.0 x.1) ∙ x.3 }
 
 -- a master whose ledger is as before is a master still
-pub master_again : (d e : Ledger) → IsAgain d e → (d.kept ≡ None) × AreSlots d.slots × (length d.slots ≡ count) → (e.kept ≡ None) × AreSlots e.slots × (length e.slots ≡ count)
+pub master_again : (d e : Ledger) → IsAgain d e → (d.kept ≡ None) × AreSlots d.slots × (length d.slots ≡ count)
+    → (e.kept ≡ None) × AreSlots e.slots × (length e.slots ≡ count)
 master_again d e a i = (a.kept ∙ i.0, subst AreSlots (sym a.slots_are) i.1, ap length a.slots_are ∙ i.2)
 
 no_other : (e : Loan) (before after : List Loan) → IsAlone (before ++ e ∷ after) e.slot → ⊥
 no_other e [] after h = h.0 refl
 no_other e (b ∷ before) after h = no_other e before after h.1
 
--- of entries of which one alone is on a slot, it is the one that is taken
+-- of loans of which one alone is on a slot, it is the one that is taken
 pub taken_alone : (e : Loan) (es new : List Loan) → IsAlone es e.slot → IsTaken (e ∷ es) e new → new ≡ es
 taken_alone e es new alone h = by h.0 h.2 h.3
   where

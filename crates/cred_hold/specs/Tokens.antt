@@ -24,7 +24,7 @@ loan label slot held = record { label = label; slot = slot; held = held }
 -- credential if it is sealed
 pub record Mastered : Type 0 where
   pub id : TableId
-  pub entries : List Loan
+  pub loans : List Loan
   pub slots : List (Option Credential)
 
 -- a hold: its cells, its label and its slot, and the credential that is held
@@ -51,7 +51,7 @@ none_sealed = replicate SLOTS None
 
 -- no token is out on the slot
 abbrev pub IsAlone : List Loan → ℕ → Type 0
-IsAlone entries slot = AllByRecursion (λ e. e.slot ≢ slot) entries
+IsAlone loans slot = AllByRecursion (λ e. e.slot ≢ slot) loans
 
 -- ---- how they are seen in words
 
@@ -78,5 +78,5 @@ AreZeros first ws = (i : ℕ) → first ≤ i → i < width → slice_index ws i
 -- the ledger is as before, but for its next ticket
 pub record IsAgain (before after : Ledger) : Type 0 where
   pub slots_are : after.slots ≡ before.slots
-  pub entries : after.entries ≡ before.entries
+  pub loans : after.loans ≡ before.loans
   pub kept : after.kept ≡ before.kept

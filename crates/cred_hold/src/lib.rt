@@ -1,4 +1,5 @@
-//! Credentials in shared words, lent as holds, which read, and as writers, which put.
+//! Credentials in the shared words: lent as holds, which read, and as writers, which put; and their
+//! master, which lends them.
 #![tactic(auto)]
 
 mod like;

@@ -36,7 +36,7 @@ impl Model for Master {
 
     ghost view = { λ m. record {
       id = m.inner.id;
-      entries = map loan_seen m.inner.ledger.entries;
+      loans = map loan_seen m.inner.ledger.loans;
       slots = map slot_seen m.inner.ledger.slots;
     } };
 
@@ -51,7 +51,7 @@ impl Model for Master {
 ///
 /// `NoMemory` if the allocation of the cells fails.
 pub fn make(alloc: Global) -> Result<(Cells, Master), NoMemory>
-    ensures { IfOk result (λ r. (r.1.id ≡ r.0) × (r.1.entries ≡ [])
+    ensures { IfOk result (λ r. (r.1.id ≡ r.0) × (r.1.loans ≡ [])
         × (r.1.slots ≡ none_sealed)) }
 {
     let (cells, inner) = Cells::make(alloc)?;
@@ -65,8 +65,8 @@ impl Master {
         requires sealed { IsSealed self.old.slots slot }
         ensures hold { (result.id ≡ self.old.id) × (result.label ≡ label) × (result.slot ≡ slot) }
         ensures cred { slice_get self.old.slots slot ≡ Some (Some result.cred) }
-        ensures entries { self.new.entries
-            ≡ loan label slot (Some result.cred) ∷ self.old.entries }
+        ensures loans { self.new.loans
+            ≡ loan label slot (Some result.cred) ∷ self.old.loans }
         ensures rest { (self.new.id ≡ self.old.id) × (self.new.slots ≡ self.old.slots) }
     {
         Hold {
@@ -76,11 +76,11 @@ impl Master {
         }
     }
 
-    /// Takes a hold back, and its entry from what is lent. It takes no memory.
+    /// Takes a hold back, and its loan from what is lent. It takes no memory.
     pub fn give_back(&mut self, cells: &Cells, hold: Hold)
         requires own { (self.old.id ≡ cells.now) × (hold.id ≡ cells.now) }
-        ensures entry { IsTaken self.old.entries (loan hold.label hold.slot (Some hold.cred))
-            self.new.entries }
+        ensures taken { IsTaken self.old.loans (loan hold.label hold.slot (Some hold.cred))
+            self.new.loans }
         ensures cred { slice_get self.old.slots hold.slot ≡ Some (Some hold.cred) }
         ensures rest { (self.new.id ≡ self.old.id) × (self.new.slots ≡ self.old.slots) }
     {
@@ -98,10 +98,10 @@ impl Master {
     pub fn lend_writer(&mut self, cells: &Cells, label: u32, slot: u32) -> Writer
         requires own { self.old.id ≡ cells.now }
         requires within { slot < SLOTS }
-        requires alone { IsAlone self.old.entries slot }
+        requires alone { IsAlone self.old.loans slot }
         ensures writer { (result.id ≡ self.old.id) × (result.label ≡ label)
             × (result.slot ≡ slot) × (result.put ≡ None) }
-        ensures entries { self.new.entries ≡ loan label slot None ∷ self.old.entries }
+        ensures loans { self.new.loans ≡ loan label slot None ∷ self.old.loans }
         ensures slots { self.new.slots ≡ slice_set self.old.slots slot None }
         ensures long { length self.old.slots ≡ SLOTS }
         ensures same { self.new.id ≡ self.old.id }
@@ -113,12 +113,12 @@ impl Master {
         }
     }
 
-    /// Takes a writer back, and its entry from what is lent. The slot has the credential that was
+    /// Takes a writer back, and its loan from what is lent. The slot has the credential that was
     /// put last, or is not sealed where nothing was put. It takes no memory.
     pub fn take_back(&mut self, cells: &Cells, writer: Writer)
         requires own { (self.old.id ≡ cells.now) × (writer.id ≡ cells.now) }
-        ensures entry { IsTaken self.old.entries (loan writer.label writer.slot None)
-            self.new.entries }
+        ensures taken { IsTaken self.old.loans (loan writer.label writer.slot None)
+            self.new.loans }
         ensures slot { slice_get self.new.slots writer.slot ≡ Some writer.put }
         ensures slots { self.new.slots ≡ slice_set self.old.slots writer.slot writer.put }
         ensures same { self.new.id ≡ self.old.id }
@@ -177,7 +177,7 @@ impl Master {
     pub fn set(&mut self, cells: &Cells, slot: u32, cred: &Cred)
         requires own { self.old.id ≡ cells.now }
         requires within { slot < SLOTS }
-        requires alone { IsAlone self.old.entries slot }
+        requires alone { IsAlone self.old.loans slot }
         ensures made { self.new ≡ record self.old {
           slots = slice_set self.old.slots slot (Some cred.now);
         } }
@@ -203,7 +203,7 @@ impl Master {
         requires own { self.old.id ≡ cells.now }
         requires sealed { IsSealed self.old.slots from }
         requires within { slot < SLOTS }
-        requires alone { IsAlone self.old.entries slot }
+        requires alone { IsAlone self.old.loans slot }
         requires apart { from ≢ slot }
         requires valid { (c : Credential) → slice_get self.old.slots from ≡ Some (Some c) →
             AreValidSets parts.now.perm c.inh parts.now.eff parts.now.amb }
@@ -244,7 +244,7 @@ impl Master {
     pub fn clear(&mut self, cells: &Cells, slot: u32)
         requires own { self.old.id ≡ cells.now }
         requires within { slot < SLOTS }
-        requires alone { IsAlone self.old.entries slot }
+        requires alone { IsAlone self.old.loans slot }
         ensures made { self.new ≡ record self.old { slots = slice_set self.old.slots slot None } }
         ensures long { length self.old.slots ≡ SLOTS }
     {

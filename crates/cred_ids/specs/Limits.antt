@@ -1,6 +1,7 @@
 -- The limits: how many there may be of each thing. Definitions cite these numbers, and no others;
 -- the constants of the code are proved to be them.
-use Rattle.std.specs.Prelude.{ℕ}
+use Rattle.std.specs.Prelude.{ℕ, List}
+use Rattle.std.specs.List.{range_with_len}
 
 -- ---- of a script
 
@@ -72,6 +73,10 @@ PREPARED = 64
 -- the slots that credentials stand in
 abbrev pub SLOTS : ℕ
 SLOTS = 256
+
+-- 0 to 255
+unfoldable pub slots : List ℕ
+slots = range_with_len 0 SLOTS
 
 -- the words of 64 bits that a credential is laid out in: 12, and one for each two groups
 abbrev pub WORDS : ℕ

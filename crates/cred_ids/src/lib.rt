@@ -1,5 +1,5 @@
-//! The identities of a task (credentials(7)): ids of users and groups, the arguments by which calls
-//! name them, and the supplementary groups.
+//! Ids of users and groups (credentials(7)), the arguments by which calls name them, lists of
+//! groups and of bytes, every limit, and `NoMemory`.
 #![tactic(auto)]
 
 pub mod arg;

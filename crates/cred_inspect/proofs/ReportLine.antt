@@ -1,5 +1,6 @@
 -- Where the line `report` stands in an input.
-use Rattle.std.proofs.Common.{◌≡◌, ℕ, suc, ◌+◌, ◌-◌, ◌<◌, Bool, true, false, cond, ◌==◌, List, [], ◌∷◌, ◌++◌, length, take, drop, map, not, Some, None, ◌||◌, refl, sym, ap, ◌∙◌, add-one, append_assoc, length-append, arith}
+use Rattle.std.proofs.Common.{◌≡◌, ℕ, suc, ◌+◌, ◌-◌, ◌<◌, Bool, true, false, cond, ◌==◌, List, [], ◌∷◌, ◌++◌, length, take, drop, map, not, Some, None, ◌||◌}
+use Rattle.std.proofs.Common.{refl, sym, ap, ◌∙◌, add-one, append_assoc, length-append, arith}
 use Rattle.std.specs.List.{onto_first, concat, list_any, before_first, position_or_len}
 use Rattle.std.proofs.lemmas.Bool.Decides.{nat_tests}
 use Rattle.std.proofs.lemmas.List.{append-nil, take_at, drop_at, drop-drop}
@@ -83,7 +84,8 @@ first_passing p (l ∷ ls) line more none found =
     first_at (p l) (position_or_len p (ls ++ line ∷ more)) l ls (ls ++ line ∷ more) (list_any p ls) none
     (λ below. first_passing p ls line more below found)
 
-bytes_more : (lines : List (List ℕ)) (line : List ℕ) → concat (map with_line_feed (lines ++ line ∷ [])) ≡ concat (map with_line_feed lines) ++ with_line_feed line
+bytes_more : (lines : List (List ℕ)) (line : List ℕ)
+    → concat (map with_line_feed (lines ++ line ∷ [])) ≡ concat (map with_line_feed lines) ++ with_line_feed line
 bytes_more [] line = append-nil (with_line_feed line)
 bytes_more (l ∷ ls) line = rw (bytes_more ls line) (sym (append_assoc (with_line_feed l) (concat (map with_line_feed ls)) (with_line_feed line)))
 
@@ -96,7 +98,9 @@ passed_line input rest line more before some is other =
     let all : lines_of input ≡ (before.lines ++ line ∷ []) ++ lines_of left
     = before.all ∙ ap (λ z. before.lines ++ z) (is ∙ ap (λ z. line ∷ z) first.more_is) ∙ sym (append_assoc before.lines (line ∷ []) (lines_of left)) in
     let bytes : 0 < length left → input ≡ concat (map with_line_feed (before.lines ++ line ∷ [])) ++ left
-    = λ more_left. rw (bytes_more before.lines line) (before.bytes some ∙ ap (λ z. concat (map with_line_feed before.lines) ++ z) (first.bytes_are more_left) ∙ sym (append_assoc (concat (map with_line_feed before.lines)) (with_line_feed line) left)) in
+    = λ more_left. rw (bytes_more before.lines line)
+    (before.bytes some ∙ ap (λ z. concat (map with_line_feed before.lines) ++ z) (first.bytes_are more_left)
+    ∙ sym (append_assoc (concat (map with_line_feed before.lines)) (with_line_feed line) left)) in
     rw add-one (record {
       lines = before.lines ++ line ∷ [];
       all = all;
@@ -110,22 +114,27 @@ passed_all input [] before over = rw (before.all ∙ append-nil before.lines, be
 passed_all input (b ∷ bs) before over = absurd (omega arith)
 
 -- What follows a line of the same length, behind the bytes before it.
-after_at : (front rest line : List ℕ) → length line ≡ length REPORT → drop (length (front ++ with_line_feed REPORT)) (front ++ rest) ≡ drop (length line + 1) rest
-after_at front rest line same =
-    let size : length (front ++ with_line_feed REPORT) ≡ length front + (length line + 1) = omega (arith, length-append front (with_line_feed REPORT), length-append REPORT (10 ∷ [])) in
-    rw size (sym (drop-drop (length line + 1) (length front) (front ++ rest)) ∙ ap (drop (length line + 1)) (drop_at front rest (length front) refl))
+after_at : (prefix rest line : List ℕ) → length line ≡ length REPORT
+    → drop (length (prefix ++ with_line_feed REPORT)) (prefix ++ rest) ≡ drop (length line + 1) rest
+after_at prefix rest line same =
+    let size : length (prefix ++ with_line_feed REPORT) ≡ length prefix + (length line + 1) =
+    omega (arith, length-append prefix (with_line_feed REPORT), length-append REPORT (10 ∷ [])) in
+    rw size (sym (drop-drop (length line + 1) (length prefix) (prefix ++ rest)) ∙ ap (drop (length line + 1)) (drop_at prefix rest (length prefix) refl))
 
 -- the line is `report`
 pub passed_found : (input rest line : List ℕ) (more : List (List ℕ)) → Passed input rest → 0 < length rest → lines_of rest ≡ line ∷ more → is_report line ≡ true
     → input_parts input ≡ Some (take (length input - length rest) input, drop (length line + 1) rest)
 passed_found input rest line more before some is found =
-    let front : List ℕ = concat (map with_line_feed before.lines) in
+    let prefix : List ℕ = concat (map with_line_feed before.lines) in
     let lines : lines_of input ≡ before.lines ++ line ∷ more = before.all ∙ ap (λ z. before.lines ++ z) is in
     let any : list_any is_report (lines_of input) ≡ true = rw lines (some_more is_report before.lines line more found) in
-    let front_is : before_report input ≡ front = ap (λ z. concat (map with_line_feed (before_first is_report z))) lines ∙ ap (λ z. concat (map with_line_feed z)) (first_passing is_report before.lines line more before.none found) in
-    let input_is : input ≡ front ++ rest = before.bytes some in
+    let prefix_is : before_report input ≡ prefix =
+    ap (λ z. concat (map with_line_feed (before_first is_report z))) lines ∙ ap (λ z. concat (map with_line_feed z))
+    (first_passing is_report before.lines line more before.none found) in
+    let input_is : input ≡ prefix ++ rest = before.bytes some in
     let line_is : line ≡ REPORT = (bytes_eq-Decides line REPORT).0 found in
-    let count : length front ≡ length input - length rest = omega (arith, ap length input_is, length-append front rest) in
-    let first : take (length input - length rest) input ≡ front = rw (← count) (rw input_is (take_at front rest (length front) refl)) in
-    let after : drop (length (front ++ with_line_feed REPORT)) input ≡ drop (length line + 1) rest = rw input_is (after_at front rest line (ap length line_is)) in
-    rw (any, front_is, first) (ap (λ z. Some (front, z)) after)
+    let count : length prefix ≡ length input - length rest = omega (arith, ap length input_is, length-append prefix rest) in
+    let first : take (length input - length rest) input ≡ prefix = rw (← count) (rw input_is (take_at prefix rest (length prefix) refl)) in
+    let after : drop (length (prefix ++ with_line_feed REPORT)) input ≡ drop (length line + 1) rest =
+    rw input_is (after_at prefix rest line (ap length line_is)) in
+    rw (any, prefix_is, first) (ap (λ z. Some (prefix, z)) after)

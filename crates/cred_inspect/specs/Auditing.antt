@@ -77,8 +77,8 @@ WritesPrefix before after input =
     × SaysVerdict input answer text × AppendsPrefix before after text
 
 -- The statuses that an input may have: which of Done, NotLegal, Bad and TooLarge it is, the input
--- alone decides, and nothing but a fault or lack of memory takes their place. Only what is within
--- the limits has a text that can fail to be written.
+-- alone decides, and nothing but a fault or running out of memory takes their place. Only what is
+-- within the limits has a text that can fail to be written.
 abbrev pub AuditSuits : List ℕ → Status → Type 0
 AuditSuits input status.TooLarge = (AUDIT_LIMIT < length input) ⊎ IsTooLarge (script_part input)
 AuditSuits input status.ReadFault = ⊤

@@ -3,7 +3,7 @@ use Rattle.std.specs.Prelude.{◌≡◌, ℕ, List, ◌++◌, codes, decimal}
 use Rattle.std.specs.declared.option.Option.{Option}
 use Rattle.hex.specs.Hex.{encode_lower}
 use Rattle.cred_rules.specs.Attribute.{Attribute, Spells, IsCanonical}
-use Rattle.cred_captext.specs.Reading.{Says, IsRefused}
+use Rattle.cred_captext.specs.Reading.{TextSays, IsRefused}
 use Rattle.cred_captext.specs.declared.refusal.TextRefusal.{TextRefusal}
 use Rattle.cred_captext.specs.declared.refusal.TextRefusal.TheVariants.{Bad, Mixed}
 use Rattle.cred_said.specs.declared.status.Status.{Status}
@@ -11,7 +11,7 @@ use Rattle.cred_inspect.specs.Operands.{LeavesEither, SaysEither}
 
 -- the text says something of a file
 abbrev pub IsCapText : List ℕ → Type 0
-IsCapText text = (a : Attribute) × Says text a
+IsCapText text = (a : Attribute) × TextSays text a
 
 -- the bytes are those that setxattr(2) takes for this attribute: every bit that spells nothing is
 -- zero
@@ -26,7 +26,7 @@ IsLineOf a line =
 
 -- the text says an attribute of a file, and this is the line of its bytes
 abbrev pub IsDigitsOf : List ℕ → List ℕ → Type 0
-IsDigitsOf text line = (a : Attribute) × Says text a × IsLineOf a line
+IsDigitsOf text line = (a : Attribute) × TextSays text a × IsLineOf a line
 
 -- to bytes that are no text of a file's capabilities, for this reason
 abbrev pub text_refusal : TextRefusal → List ℕ

@@ -25,7 +25,7 @@ WritesPart Good Bad before after =
     (text : List ℕ) × (Good text ⊎ Bad text) × AppendsPrefix before after text
 
 -- The statuses that a word may have: which of Done and Bad it is, the word alone decides, by which
--- of the two kinds has a text, and nothing but a fault or lack of memory takes their place.
+-- of the two kinds has a text, and nothing but a fault or running out of memory takes their place.
 abbrev pub SuitsOperand : (List ℕ → Type 0) → (List ℕ → Type 0) → Status → Type 0
 SuitsOperand Good Bad status.Done = (text : List ℕ) × Good text
 SuitsOperand Good Bad status.Bad = (text : List ℕ) × Bad text

@@ -2,8 +2,8 @@
 use Rattle.std.specs.Prelude.{◌≡◌, ℕ, List, ◌++◌, codes, decimal}
 use Rattle.std.specs.declared.option.Option.{Option}
 use Rattle.hex.specs.Hex.{encode_lower}
-use Rattle.cred_pen.specs.Numbers.{set_text}
-use Rattle.cred_capdata.specs.Record.{Spells, IsCanonical, refusal_of}
+use Rattle.cred_report.specs.Numbers.{set_text}
+use Rattle.cred_capdata.specs.Record.{SpellsData, IsCanonicalData, data_refusal_of}
 use Rattle.cred_capdata.specs.declared.data.CapData.{CapData}
 use Rattle.cred_capdata.specs.declared.refusal.DataRefusal.{DataRefusal}
 use Rattle.cred_capdata.specs.declared.refusal.DataRefusal.TheVariants.{BadLength, BadVersion}
@@ -12,7 +12,7 @@ use Rattle.cred_inspect.specs.Operands.{LeavesEither, SaysEither}
 
 -- the bytes spell a record
 abbrev pub IsRecord : List ℕ → Type 0
-IsRecord bytes = (d : CapData) × Spells bytes d
+IsRecord bytes = (d : CapData) × SpellsData bytes d
 
 -- what a record of version 3 says of the same task, with the same sets
 abbrev pub as_version_3 : CapData → CapData
@@ -20,8 +20,8 @@ as_version_3 d = record d { version = 3 }
 
 -- the bytes are those that capset(2) takes for what this says, by a record of version 3
 pub record AreBytesAs3 (d : CapData) (bytes : List ℕ) : Type 0 where
-  pub spelled : Spells bytes (as_version_3 d)
-  pub canonical : IsCanonical bytes
+  pub spelled : SpellsData bytes (as_version_3 d)
+  pub canonical : IsCanonicalData bytes
 
 -- of what a record says, and of the bytes that say it by version 3
 abbrev pub record_text : CapData → List ℕ → List ℕ
@@ -36,7 +36,7 @@ IsTextOf d text = (third : List ℕ) × AreBytesAs3 d third × (text ≡ record_
 
 -- the bytes spell a record, and this is its text
 abbrev pub IsRecordText : List ℕ → List ℕ → Type 0
-IsRecordText bytes text = (d : CapData) × Spells bytes d × IsTextOf d text
+IsRecordText bytes text = (d : CapData) × SpellsData bytes d × IsTextOf d text
 
 -- to bytes that are no record, for this reason
 abbrev pub record_refusal : DataRefusal → List ℕ
@@ -45,7 +45,7 @@ record_refusal (BadVersion n) = codes "bad version " ++ decimal n ++ codes "\n"
 
 -- they spell none, and this says why
 abbrev pub IsRecordFault : List ℕ → List ℕ → Type 0
-IsRecordFault bytes text = ¬ IsRecord bytes × (text ≡ record_refusal (refusal_of bytes))
+IsRecordFault bytes text = ¬ IsRecord bytes × (text ≡ record_refusal (data_refusal_of bytes))
 
 -- what is said of the bytes, with this status
 abbrev pub SaysRecord : List ℕ → Status → List ℕ → Type 0

@@ -1,6 +1,6 @@
 //! What the bytes of a file's capability attribute say.
 ghost use Rattle.std.specs.Prelude.{◌≡◌, ◌++◌, IfOk, OnOk, codes, string_bytes};
-ghost use Rattle.cred_pen.specs.Numbers.{set_text};
+ghost use Rattle.cred_report.specs.Numbers.{set_text};
 ghost use Rattle.cred_inspect.specs.Decoding.{LeavesAttribute, SaysBytes};
 ghost use Rattle.cred_said.specs.Leaves.{IsWriting};
 ghost use Rattle.cred_said.specs.Texts as spec;
@@ -9,7 +9,7 @@ ghost use Rattle.cred_said.specs.Texts.{attr_text};
 use cred_filecap::{AttrRefusal, FileCaps, decode};
 use cred_ids::NoMemory;
 use cred_io::Sink;
-use cred_pen::{append_flag, append_number, append_set, append_word};
+use cred_report::{append_flag, append_number, append_set, append_word};
 use cred_said::{Said, Status, tell_said};
 use std::alloc::Global;
 

@@ -3,7 +3,7 @@ ghost use Rattle.std.specs.Prelude.{◌≡◌, ◌++◌, OnOk};
 ghost use Rattle.hex.specs.Hex.{encode_lower};
 
 use cred_ids::NoMemory;
-use cred_pen::append_word;
+use cred_report::append_word;
 use std::alloc::Global;
 
 /// Appends the bytes, two digits each, in lower case.

@@ -1,6 +1,6 @@
 //! The attribute that a text of file capabilities says, as its bytes.
 ghost use Rattle.std.specs.Prelude.{◌≡◌, IfOk, string_bytes};
-ghost use Rattle.cred_inspect.specs.Encoding.{AreBytesOf, IsLineOf, LeavesText, SaysText};
+ghost use Rattle.cred_inspect.specs.Encoding.{IsLineOf, LeavesText, SaysText};
 ghost use Rattle.cred_inspect.specs.Encoding.{text_refusal};
 ghost use Rattle.cred_said.specs.Leaves.{IsWriting};
 
@@ -9,7 +9,7 @@ use cred_captext::{TextRefusal, read_text};
 use cred_filecap::{FileCaps, encode};
 use cred_ids::NoMemory;
 use cred_io::Sink;
-use cred_pen::append_word;
+use cred_report::append_word;
 use cred_said::{Said, Status, tell_said};
 use std::alloc::Global;
 

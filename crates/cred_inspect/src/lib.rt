@@ -1,5 +1,7 @@
-//! What `audit`, `decode`, `encode` and `capdata` do, over their input and their output: they look
-//! at what they are given, and run nothing.
+//! `audit`, `decode`, `encode` and `capdata` over their input and their output. Read it as part of
+//! `cred_commands`.
+//!
+//! They look at what they are given, and run nothing.
 #![tactic(auto)]
 
 mod auditing;

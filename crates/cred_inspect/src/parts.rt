@@ -1,5 +1,5 @@
 //! The parts of an input of `audit`: a script, a line that is exactly `report`, and a report.
-ghost use Rattle.std.specs.Prelude.{◌≡◌, ◌+◌, ◌<◌, drop, length};
+ghost use Rattle.std.specs.Prelude.{◌≡◌, ◌+◌, ◌<◌, drop};
 ghost use Rattle.std.specs.Option.{option_map};
 ghost use Rattle.cred_inspect.specs.Parts as spec;
 

@@ -1,6 +1,6 @@
 //! What the bytes of a record of capset(2) say.
 ghost use Rattle.std.specs.Prelude.{◌≡◌, ◌++◌, IfOk, OnOk, codes, string_bytes};
-ghost use Rattle.cred_pen.specs.Numbers.{set_text};
+ghost use Rattle.cred_report.specs.Numbers.{set_text};
 ghost use Rattle.cred_inspect.specs.Records.{IsTextOf, LeavesRecord, SaysRecord};
 ghost use Rattle.cred_inspect.specs.Records.{record_refusal};
 ghost use Rattle.cred_said.specs.Leaves.{IsWriting};
@@ -9,7 +9,7 @@ use crate::digits::append_hex;
 use cred_capdata::{CapData, DataRefusal, read_data, write_data};
 use cred_ids::NoMemory;
 use cred_io::Sink;
-use cred_pen::{append_number, append_set, append_word};
+use cred_report::{append_number, append_set, append_word};
 use cred_said::{Said, Status, tell_said};
 use std::alloc::Global;
 

@@ -1,5 +1,6 @@
 -- One read or write after another, and what one read of bytes in memory takes.
-use Rattle.std.proofs.Common.{◌≡◌, ℕ, ◌+◌, ◌-◌, ◌<◌, ◌≤◌, min, List, [], ◌++◌, length, take, drop, Option, sym, ap, ◌∙◌, arith, take-append-drop, length-append, length-drop}
+use Rattle.std.proofs.Common.{◌≡◌, ℕ, ◌+◌, ◌-◌, ◌<◌, ◌≤◌, min, List, [], ◌++◌, length, take, drop, Option, sym, ap, ◌∙◌, arith, take-append-drop, length-append}
+use Rattle.std.proofs.Common.{length-drop}
 use Rattle.std.proofs.Math.Seq.{take-add}
 use Rattle.std.proofs.lemmas.List.{take_rest, take-append-le, take-take, length-take, nil_from_length}
 use Rattle.std.proofs.KnownBytes.{Consumes-nil, Consumes-trans, Appends-trans, Appends-kept}
@@ -18,11 +19,13 @@ pub appends_kept : (a b c : Option (List ℕ)) (xs : List ℕ) → Appends a b x
 appends_kept a b c xs written kept = Appends-kept a b c xs written kept
 
 -- after a write of the first n bytes of what is left of a piece
-pub appends_step : (a b c : Option (List ℕ)) (piece : List ℕ) (at n : ℕ) → Appends a b (take at piece) → Appends b c (take n (take (length piece - at) (drop at piece))) → Appends a c (take (at + n) piece)
+pub appends_step : (a b c : Option (List ℕ)) (piece : List ℕ) (at n : ℕ) → Appends a b (take at piece)
+    → Appends b c (take n (take (length piece - at) (drop at piece))) → Appends a c (take (at + n) piece)
 appends_step a b c piece at n written more = rw take-add (appends_more a b c (take at piece) (take n (drop at piece)) written (rw take_rest at more))
 
 -- Bytes in memory are read into a buffer, as many as fit, and no more than a piece.
-pub read_piece : (left old new after : List ℕ) (piece n : ℕ) → 0 < piece → n ≡ min (length old) (min piece (length left)) → new ≡ take n left ++ drop n old → after ≡ drop n left
+pub read_piece : (left old new after : List ℕ) (piece n : ℕ) → 0 < piece → n ≡ min (length old) (min piece (length left)) → new ≡ take n left ++ drop n old
+    → after ≡ drop n left
     → (left ≡ take n new ++ after) × (n ≡ 0 → 0 < length new → after ≡ [])
 read_piece left old new after piece n some fits copied rest =
     let known : n ≤ length (take n left) = omega (arith, fits, length-take n left) in
@@ -32,7 +35,8 @@ read_piece left old new after piece n some fits copied rest =
     sym (take-append-drop n left) ∙ ap (λ z. z ++ drop n left) (sym prefix_is) ∙ ap (λ z. take n new ++ z) (sym rest) in
     let size : length new ≡ length (take n left) + length (drop n old) = ap length copied ∙ length-append (take n left) (drop n old) in
     let ends : n ≡ 0 → 0 < length new → after ≡ [] =
-    λ none room. nil_from_length after (omega (arith, some, fits, size, none, room, length-take n left, length-drop n old, ap length rest, length-drop n left)) in
+    λ none room. nil_from_length after
+    (omega (arith, some, fits, size, none, room, length-take n left, length-drop n old, ap length rest, length-drop n left)) in
     (whole, ends)
 
 -- The same of an end that moves as much as it is asked to.

@@ -1,5 +1,7 @@
-//! Where bytes come from and where they go: sources and sinks with a count of their faults, reading
-//! to the end within a limit, writing a whole text, and ends in memory and over std's streams.
+//! Where bytes come from and go to: sources and sinks with a count of faults, in memory and over
+//! std's streams.
+//!
+//! Here is also what reads to the end within a limit, and what writes a whole text.
 #![tactic(auto)]
 
 mod failed;

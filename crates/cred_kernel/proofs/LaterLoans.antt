@@ -59,7 +59,8 @@ relent roll lane row = record { id = roll.id; rows = with_row roll.rows lane row
 pub locked_after : (script : Script) (id cells : TableId) (infos : List File) (before after : Recorded) (roll taken lent : Rolled) (back : Passed)
     (lane : ℕ) (was now : Numbers)
     → IsLocked script id cells infos before roll → IsMoved before after lane now → after.script ≡ before.script → after.words.id ≡ before.words.id
-    → infos_in after ≡ infos_in before → BookStands after → back ≡ pass id lane was → HasRow roll.rows back.lane → taken ≡ relent roll back.lane (home_row back.numbers)
+    → infos_in after ≡ infos_in before → BookStands after → back ≡ pass id lane was → HasRow roll.rows back.lane
+    → taken ≡ relent roll back.lane (home_row back.numbers)
     → lent ≡ relent taken lane (lent_row now) → IsLocked script id cells infos after lent
 locked_after script id cells infos before after roll taken lent back lane was now is moved same own files stands its here took gave =
     let there : HasRow roll.rows lane = subst (λ (p : Passed). HasRow roll.rows p.lane) its here in

@@ -112,7 +112,8 @@ has_entered before after lane works was now is then has = record {
 }
 
 -- so of a step
-pub advanced : {E : Type 0} (infos : List File) (cells : TableId) (before after : Recorded) (lane : ℕ) (was : Numbers) (entry : Option Entry) (step : Result Step E)
+pub advanced : {E : Type 0} (infos : List File) (cells : TableId) (before after : Recorded) (lane : ℕ) (was : Numbers) (entry : Option Entry)
+    (step : Result Step E)
     → was ≡ numbers_in before lane → was.out ≡ None → after.script ≡ before.script → after.words.id ≡ cells → infos_in after ≡ infos → IsSetUp before
     → IfOk step (Makes before after lane entry) → IfOk step (Counts before after lane) → OnErr step (after ≡ before)
     → IfOk step (Advanced before.script infos cells (seen lane was) (seen lane (after_step was (ended_of after.script after.journal lane) step)))
@@ -157,7 +158,7 @@ pub err_same : {E : Type 0} (P : E → Type 0) (before after : Recorded) (step :
 err_same {E} P before after (Ok step) err = tt
 err_same {E} P before after (Err e) err = err.1
 
--- after want of memory the turn is as it was
+-- where memory ran out the turn is as it was
 pub same_stepped : {E : Type 0} (before after : Recorded) (lane : ℕ) (was : Numbers) (step : Result Step E) → was ≡ numbers_in before lane
     → OnErr step (after ≡ before) → OnErr step (after_step was (ended_of after.script after.journal lane) step ≡ was)
 same_stepped {E} before after lane was (Ok step) is err = tt

@@ -15,11 +15,13 @@ pub record Took (start rows : List Row) (before : List Seen) : Type 0 where
   pub out : (k : ℕ) → length before ≤ k → row_of rows (k + 1) ≡ row_of start (k + 1)
 
 -- in a list of all turns, the next one's lane is one more than the number of those before it
-pub lane_is : (script : Script) (all before after : List Seen) (turn : Seen) → AreAllTurns script all → before ++ turn ∷ after ≡ all → turn.lane ≡ length before + 1
+pub lane_is : (script : Script) (all before after : List Seen) (turn : Seen) → AreAllTurns script all → before ++ turn ∷ after ≡ all
+    → turn.lane ≡ length before + 1
 lane_is script all before after turn are split =
     let here : length before < length all = omega (arith, sym (ap length split) ∙ length-append before (turn ∷ after)) in
     let at : turn_at all (length before) ≡ turn
-    = subst (λ (l : List Seen). turn_at l (length before) ≡ turn) split (get_or_at before turn after (record { lane = 0; numbers = fresh }) (length before) refl) in
+    = subst (λ (l : List Seen). turn_at l (length before) ≡ turn) split
+    (get_or_at before turn after (record { lane = 0; numbers = fresh }) (length before) refl) in
     sym (ap (λ (t : Seen). t.lane) at) ∙ are.in_order (length before) here
 
 pub took_one : (start rows : List Row) (before : List Seen) (turn : Seen) (back : Row) → Took start rows before → turn.lane ≡ length before + 1

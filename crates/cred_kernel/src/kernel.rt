@@ -19,7 +19,7 @@ use std::thread::Parker;
 use std::time::Duration;
 
 /// How long a worker that finds the lock taken naps before it tries again, in microseconds. Works
-/// go out at every other line, and the lock is let go of for each. A lock that woke who waits for
+/// go out at every other line, and the lock is released for each. A lock that woke who waits for
 /// it would put a thread to sleep and wake another as often, which costs more than the line, and
 /// what lies under the lock would go from processor to processor. Of a nap whoever has the lock
 /// knows nothing, and mostly gets it again.

@@ -1,4 +1,5 @@
-//! The kernel: one lock round the book and the roll, the cells beside it, and a turn for each lane.
+//! What the threads of all lanes share: one lock, with the book and the rows behind it, and the
+//! cells beside it; and a turn for each lane.
 //!
 //! Under the lock stand the journal, which is one that the script may have so far, and the roll,
 //! each of whose rows has its lane's numbers in that journal. Each row is lent to the lane's turn.

@@ -36,8 +36,8 @@ impl<K: Name> Model for Locked<K> {
 
 impl<K: Name> Locked<K> {
     /// Makes the next event of the turn's lane, or gives it out as a work where it waits for a
-    /// decision. There is no way out between taking the pass back and lending the row again: after
-    /// want of memory the same numbers are lent.
+    /// decision. There is no way out between taking the pass back and lending the row again: where
+    /// memory ran out the same numbers are lent.
     ///
     /// # Errors
     ///

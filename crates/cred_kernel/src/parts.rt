@@ -4,7 +4,7 @@ ghost use Rattle.cred_book.specs.Book.{out_of};
 ghost use Rattle.cred_book.specs.Counts.{HasEntered};
 ghost use Rattle.cred_book.specs.Cursor.{BookStands, steps_left};
 ghost use Rattle.cred_book.specs.Works.{IsLanes};
-ghost use Rattle.cred_kernel.specs.Locks.{IsFirst, IsReadyBook};
+ghost use Rattle.cred_kernel.specs.Locks.{IsReadyBook};
 
 use cred_book::{Book, Step, Unfinished};
 use cred_hold::Cells;

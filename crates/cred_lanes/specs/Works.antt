@@ -16,7 +16,7 @@ use Rattle.cred_kernel.specs.Turns.{Seen, LaneHasEnded}
 abbrev pub Finished : Script → Seen → Seen → Type 0
 Finished script turn done = (done.lane ≡ turn.lane) × LaneHasEnded script done
 
--- of each lane from 1 on, in order, want of memory or its turn, which has ended
+-- of each lane from 1 on, in order, out of memory or its turn, which has ended
 abbrev pub AllFinished : {E : Type 0} → Script → List (Result Seen E) → Type 0
 AllFinished {E} script done =
     (k : ℕ) (d : Result Seen E) → k < length done

@@ -1,10 +1,9 @@
-//! The lanes of a script as threads: a worker for each lane, and the run from a script to its
-//! journal.
+//! The lanes of a script as threads: a worker for each lane, and the journal that they make.
 //!
 //! A worker makes the events of its lane, one after another, until the lane has ended. Each is made
-//! under the kernel's lock, of which the worker lets go after one event, and later, when its lane
-//! has had more, after some. But an event that waits for a decision on a credential goes out as a
-//! work: the worker lets go of the lock, decides, and gets the lock again to enter the event. It
+//! under the kernel's lock, which the worker releases after one event, and later, when its lane has
+//! had more, after some. But an event that waits for a decision on a credential goes out as a
+//! work: the worker releases the lock, decides, and gets the lock again to enter the event. It
 //! can't do otherwise: to get the lock it gives its turn, and to decide it needs the turn. Which
 //! worker gets the lock next is up to the threads, and no clause says it: in whatever order the
 //! events come, the journal is legal for the script.

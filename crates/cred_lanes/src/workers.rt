@@ -48,9 +48,9 @@ pub fn drive<K: Name + Send + Sync, G: Gate + Sync, R: Threads + Wait + Sync>(
     all_ended(alloc, done)
 }
 
-/// A worker lets go of the lock once it has made this part of the events that its lane has had, if
+/// A worker releases the lock once it has made this part of the events that its lane has had, if
 /// none of them had to be decided. A thread that is put to sleep and woken costs as much as a
-/// hundred events, so a long lane isn't to let go of the lock at each; in a short one the lanes
+/// hundred events, so a long lane isn't to release the lock at each; in a short one the lanes
 /// still take turns often.
 const PART: u64 = 16;
 
@@ -87,7 +87,7 @@ fn work<K: Name, G: Gate, R: Wait>(
     unreachable!()
 }
 
-/// Gets the lock, goes on with the turn's lane, and lets go of the lock. It enters the work that
+/// Gets the lock, goes on with the turn's lane, and releases the lock. It enters the work that
 /// came of the last step, if one did, which is decided, and then makes some events, up to the next
 /// that waits for a decision, or to the lane's end. No call changes the turn's lane.
 ///
@@ -121,7 +121,8 @@ fn enter<K: Name>(guard: &mut KernelGuard<'_, K>, work: Work) -> Result<(), NoMe
     requires out { guard.old.numbers.out ≡ Some work.line }
     requires work { IsWorkOf K.script K.infos K.cells work }
     requires decided { IsDecided work }
-    ensures { IfOk result (λ _. (guard.new.lane ≡ guard.old.lane) × (guard.new.numbers.out ≡ None)) }
+    ensures { IfOk result (λ _.
+        (guard.new.lane ≡ guard.old.lane) × (guard.new.numbers.out ≡ None)) }
 {
     match guard.finish(work) {
         Ok(step) => {

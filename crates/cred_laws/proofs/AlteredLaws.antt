@@ -1,6 +1,7 @@
 -- What a label prepares was made by the last entry that changed it, with the file that this one names
 -- as it stood then.
-use Rattle.std.proofs.Common.{◌≡◌, ◌≢◌, ◌==◌, ◌&&◌, inl, inr, ℕ, zero, suc, ◌+◌, ◌<◌, List, [], ◌∷◌, get_or, length, take, slice_get, Option, Some, None, Result, Ok, Err, Bool, true, false, cond, refl, sym, ap, ◌∙◌, subst, arith}
+use Rattle.std.proofs.Common.{◌≡◌, ◌≢◌, ◌==◌, ◌&&◌, inl, inr, ℕ, zero, suc, ◌+◌, ◌<◌, List, [], ◌∷◌, get_or, length, take, slice_get, Option, Some, None}
+use Rattle.std.proofs.Common.{Result, Ok, Err, Bool, true, false, cond, refl, sym, ap, ◌∙◌, subst, arith}
 use Rattle.std.specs.List.{All, find}
 use Rattle.std.specs.Option.{IfSome}
 use Rattle.std.proofs.lemmas.Bool.{cases_lt, eqb-true}
@@ -19,9 +20,9 @@ use Rattle.cred_event.specs.declared.event.Change.{Change}
 use Rattle.cred_event.specs.declared.event.Change.TheVariants.{SetFs, Adjust, Exec}
 use Rattle.cred_event.specs.declared.event.Event.{Event}
 use Rattle.cred_event.specs.declared.event.Event.TheVariants.{Alter}
-use Rattle.cred_model.specs.Answers.{is_ok}
+use Rattle.cred_event.specs.Answers.{is_ok}
 use Rattle.cred_model.specs.Change.{Made, by_change, made_by_rule, made_by_exec}
-use Rattle.cred_model.specs.Moves.{◌>>=◌, relabelled, altered}
+use Rattle.cred_model.specs.Moves.{relabelled, altered}
 use Rattle.cred_model.specs.Named.{change_files}
 use Rattle.cred_model.specs.Script.{Script, chain_of}
 use Rattle.cred_model.specs.State.{State, SealedCred, Prepared, Changed, Numbered, numbered, prepared_of, info_of}
@@ -39,6 +40,7 @@ use Rattle.cred_laws.proofs.Cases.{some_case}
 use Rattle.cred_laws.proofs.MadeLaws.{bases_sealed, same_numbered, the_one}
 use Rattle.cred_laws.proofs.States.{answered_at, past_end, step_at}
 use Rattle.cred_laws.proofs.Unexecuted.{answer_of, answers_settled}
+use Rattle.cred_ids.specs.Tests.{◌>>=◌}
 
 -- ---- which answers of a change are refusals
 
@@ -164,7 +166,8 @@ module _ (script : Script) (journal : List Entry) (k : ℕ) (entry : Entry) (is 
 
     altered_one : (p : Prepared) (base : Numbered) (to : Changed) (answer : Answer) → prepared_of s label ≡ Some p → numbered s.creds p.base ≡ Some base
         → to.change ≡ change → is_ok entry.answer ≡ true
-        → by_change (info_of s.infos (change_files to.change)) (chain_of script base.cred.ns) base.cred to.change ≡ Ok (record { answer = answer; cred = to.cred; gains = to.gains })
+        → by_change (info_of s.infos (change_files to.change)) (chain_of script base.cred.ns) base.cred to.change
+        ≡ Ok (record { answer = answer; cred = to.cred; gains = to.gains })
         → (q : Prepared) → ((q.label == label) ≡ true → q ≡ p) → IsOf k s.creds q → IsOf (k + 1) s.creds (relabelled label to q)
     altered_one p base to answer found at same ok so q one old =
         elim (q.label == label) as (λ b. (q.label == label) ≡ b → IsOf (k + 1) s.creds (cond b (record q { changed = Some to }) q)) [
@@ -201,7 +204,8 @@ module _ (script : Script) (journal : List Entry) (k : ℕ) (entry : Entry) (is 
         (λ m so ok answered.
         let to : Changed = record { change = change; cred = m.cred; gains = m.gains } in
         All-map (IsOf (k + 1) s.creds) (relabelled label to) s.prepared (λ i d lt.
-        altered_one p base to m.answer found at refl (ap is_ok (sym answered) ∙ ok) so (get_or s.prepared i d) (the_one s label p sound found i d lt) (made i d lt)))))
+        altered_one p base to m.answer found at refl (ap is_ok (sym answered) ∙ ok) so (get_or s.prepared i d) (the_one s label p sound found i d lt)
+        (made i d lt)))))
 
   by_event : (event : Event) → entry.event ≡ event → entry.answer ≡ (step script s entry.line entry.event).0 → IsSound s
       → AreMadeFrom (IsFileOf script journal k) script s

@@ -1,5 +1,6 @@
 -- A broadcast from its begin to its last step.
-use Rattle.std.proofs.Common.{◌≡◌, ◌≢◌, ◌==◌, ◌||◌, ◌-◌, not, ℕ, List, [], ◌∷◌, ◌++◌, length, map, get_or, slice_get, Some, None, Result, Ok, Err, Bool, true, false, cond, refl, sym, ap, ◌∙◌, subst, arith}
+use Rattle.std.proofs.Common.{◌≡◌, ◌≢◌, ◌==◌, ◌||◌, ◌-◌, not, ℕ, List, [], ◌∷◌, ◌++◌, length, map, get_or, slice_get, Some, None, Result, Ok, Err, Bool, true}
+use Rattle.std.proofs.Common.{false, cond, refl, sym, ap, ◌∙◌, subst, arith}
 use Rattle.std.specs.List.{All, filter, list_any}
 use Rattle.std.proofs.lemmas.List.Elements.{All-cons, All-nil}
 use Rattle.std.proofs.lemmas.Bool.Decides.{nat_tests}
@@ -185,7 +186,11 @@ follow_closes s process cast task owner old (Ok new) sound is first who cred slo
     (λ now. (Aborted task cause.Full, aborted cast now))
     (λ now slot. (
       Acted task (length now.creds) slot (length cast.waiting - 1),
-      record (replaced now task old.number new slot) { casts = waits_no_more task now.casts; dumpable = renewed now.dumpable owner.process (differs old.cred new) },
+      record (replaced now task old.number new slot) {
+        casts = waits_no_more task now.casts;
+        dumpable = renewed now.dumpable owner.process
+            (differs old.cred new);
+      },
     ))
     (λ gone fewer answered. cc)
     (λ gone at fewer free answered.

@@ -23,7 +23,8 @@ use Rattle.cred_model.specs.Step.{step}
 use Rattle.cred_model.proofs.Lists.{found}
 use Rattle.cred_model.proofs.Referred.{all_survive}
 use Rattle.cred_sound.specs.Sound.{IsSound}
-use Rattle.cred_sound.proofs.Parts.{begun, TasksChange, ByBegin, ByAct, ByRaw, ByCommit, BySpawn, ByFork, ByExit, ByAbort, SameTasks, SetsFlag, Creates, Shares, Renews, Overrides, Fewer, casts_left}
+use Rattle.cred_sound.proofs.Parts.{begun, TasksChange, ByBegin, ByAct, ByRaw, ByCommit, BySpawn, ByFork, ByExit, ByAbort, SameTasks, SetsFlag, Creates, Shares}
+use Rattle.cred_sound.proofs.Parts.{Renews, Overrides, Fewer, casts_left}
 use Rattle.cred_sound.proofs.Events.{changes}
 use Rattle.cred_sound.proofs.Sound.{step_sound, opening_sound}
 use Rattle.cred_sound.proofs.Threads.{finds_itself}
@@ -188,7 +189,8 @@ module _ (P : Credential → Type 0) (kept : Kept P) (script : Script) (s : Stat
 
   closes : (event : Event) (cast : Broadcast) → HadBefore event → cast_in s process ≡ Some cast → cast.call ≡ call
       → (cast_in (step script s line event).1 process ≡ None)
-      → ((process : ℕ) (call : IdCall) → Completes s event (step script s line event).0 (step script s line event).1 process call → ⊥) ⊎ AllHave P (step script s line event).1 process
+      → ((process : ℕ) (call : IdCall) → Completes s event (step script s line event).0 (step script s line event).1 process call → ⊥)
+      ⊎ AllHave P (step script s line event).1 process
   closes event cast before is same closed =
       let made = step script s line event in
       let had = before cast is same in

@@ -1,5 +1,6 @@
 -- The laws of the calls on a credential: first what each call gives, then each law by cases on it.
-use Rattle.std.proofs.Common.{◌≡◌, ℕ, ◌==◌, ◌&&◌, ◌||◌, not, nat_lt, Bool, true, false, List, length, Option, Some, None, Result, Ok, Err, if◌then◌else◌, refl, sym, ap, subst, ◌∙◌, arith}
+use Rattle.std.proofs.Common.{◌≡◌, ℕ, ◌==◌, ◌&&◌, ◌||◌, not, nat_lt, Bool, true, false, List, length, Option, Some, None, Result, Ok, Err, if◌then◌else◌, refl}
+use Rattle.std.proofs.Common.{sym, ap, subst, ◌∙◌, arith}
 use Rattle.std.specs.List.{list_all}
 use Rattle.std.proofs.lemmas.Bool.{eqb-true}
 use Rattle.cred_ids.specs.declared.arg.Arg.{Arg}
@@ -25,7 +26,8 @@ use Rattle.cred_record.specs.declared.refusal.Denial.TheVariants.{Perm, Invalid}
 use Rattle.cred_record.specs.Credential.{Credential, capable}
 use Rattle.cred_record.specs.File.{File}
 use Rattle.cred_rules.specs.Access.{access_credential}
-use Rattle.cred_rules.specs.Adjust.{is_no_cap, may_capset, may_raise, may_set_bits, after_capset, after_bound_drop, after_amb_raise, after_amb_lower, FLAGS, keeps_lock, after_bits, after_keep_caps, after_no_new_privs, adjust}
+use Rattle.cred_rules.specs.Adjust.{is_no_cap, may_capset, may_raise, may_set_bits, after_capset, after_bound_drop, after_amb_raise, after_amb_lower, FLAGS}
+use Rattle.cred_rules.specs.Adjust.{keeps_lock, after_bits, after_keep_caps, after_no_new_privs, adjust}
 use Rattle.cred_rules.specs.Exec.{Executed, NoExec, exec}
 use Rattle.cred_rules.specs.Fix.{fixed, with_user_ids}
 use Rattle.cred_rules.specs.SetFs.{set_fs, old_fs}
@@ -35,7 +37,8 @@ use Rattle.cred_exec.proofs.ExecLaws.{gains_are_what_is_gained, inheritable_and_
 use Rattle.cred_event.specs.declared.answer.Answer.TheVariants as answer
 use Rattle.cred_event.specs.declared.event.Change.TheVariants.{SetFs, Adjust, Exec, Access}
 use Rattle.cred_model.specs.Change.{Made, made, made_by_rule, made_by_exec}
-use Rattle.cred_laws.specs.Calls.{Call, SetIds, Changes, after_call, added, clears, KeepsLocked, LocksStaySet, BoundingNeverGrows, PermittedGrowsByExecve, NoNewPrivsStays}
+use Rattle.cred_laws.specs.Calls.{Call, SetIds, Changes, after_call, added, clears, KeepsLocked, LocksStaySet, BoundingNeverGrows, PermittedGrowsByExecve}
+use Rattle.cred_laws.specs.Calls.{NoNewPrivsStays}
 
 -- ---- the calls that set ids leave all that the laws speak of but the permitted set
 
@@ -64,11 +67,13 @@ for_groups-leaves c d (Err e) same = cc
 
 -- ---- what a call gives that one test, or two, may refuse
 
-pub one-test : (P : Credential → Type 0) (refused : Bool) (e : Denial) (new d : Credential) → (refused ≡ false → P new) → (if refused then Err e else Ok new) ≡ Ok d → P d
+pub one-test : (P : Credential → Type 0) (refused : Bool) (e : Denial) (new d : Credential) → (refused ≡ false → P new)
+    → (if refused then Err e else Ok new) ≡ Ok d → P d
 one-test P true e new d holds same = cc
 one-test P false e new d holds same = let is : new ≡ d = cc in subst P is (holds refl)
 
-pub two-tests : (P : Credential → Type 0) (first second : Bool) (e e' : Denial) (new d : Credential) → (second ≡ false → P new) → (if first then Err e else if second then Err e' else Ok new) ≡ Ok d → P d
+pub two-tests : (P : Credential → Type 0) (first second : Bool) (e e' : Denial) (new d : Credential) → (second ≡ false → P new)
+    → (if first then Err e else if second then Err e' else Ok new) ≡ Ok d → P d
 two-tests P true second e e' new d holds same = cc
 two-tests P false second e e' new d holds same = one-test P second e' new d holds same
 
@@ -206,7 +211,8 @@ bits-follows c d n same =
     same
 
 -- KEEP_CAPS may change where it is not locked, and no other flag does
-keep_caps-flags : (bits : ℕ) (on : Bool) (f : Flag) → is_locked bits KeepCaps ≡ false → is_locked bits f ≡ true → is_set (with_secure_flag bits KeepCaps on) f ≡ is_set bits f
+keep_caps-flags : (bits : ℕ) (on : Bool) (f : Flag) → is_locked bits KeepCaps ≡ false → is_locked bits f ≡ true
+    → is_set (with_secure_flag bits KeepCaps on) f ≡ is_set bits f
 keep_caps-flags bits on NoRoot free set = ap (λ d. d == 1) ((sets_flag bits KeepCaps on).others 0 (omega arith) (λ same. omega (arith, same)))
 keep_caps-flags bits on NoSetuidFixup free set = ap (λ d. d == 1) ((sets_flag bits KeepCaps on).others 2 (omega arith) (λ same. omega (arith, same)))
 keep_caps-flags bits on KeepCaps free set = cc

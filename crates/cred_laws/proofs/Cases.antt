@@ -8,7 +8,8 @@ use Rattle.cred_model.specs.State.{State, Task, Broadcast}
 use Rattle.cred_model.specs.Answers.{refusal}
 use Rattle.cred_model.specs.Casts.{not_busy}
 use Rattle.cred_model.specs.Change.{by_rule}
-use Rattle.cred_model.specs.Moves.{◌>>=◌, none_or, not_overridden}
+use Rattle.cred_model.specs.Moves.{none_or, not_overridden}
+use Rattle.cred_ids.specs.Tests.{◌>>=◌}
 
 module _ (Q : Result (Answer × State) Answer → Type 0) where
   pub some_case : {A : Type 0} (found : Option A) (refused : Answer) (f : A → Result (Answer × State) Answer) → Q (Err refused)

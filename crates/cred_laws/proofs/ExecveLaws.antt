@@ -1,5 +1,6 @@
 -- An event that answers that an execve is completed commits what the rule of execve makes.
-use Rattle.std.proofs.Common.{◌≡◌, ◌==◌, not, ℕ, ◌<◌, List, [], ◌∷◌, ◌++◌, length, position, slice_get, Option, Some, None, Result, Ok, Err, Bool, true, false, cond, refl, sym, ap, ◌∙◌, subst, arith}
+use Rattle.std.proofs.Common.{◌≡◌, ◌==◌, not, ℕ, ◌<◌, List, [], ◌∷◌, ◌++◌, length, position, slice_get, Option, Some, None, Result, Ok, Err, Bool, true, false}
+use Rattle.std.proofs.Common.{cond, refl, sym, ap, ◌∙◌, subst, arith}
 use Rattle.std.specs.List.{All, count_by, find}
 use Rattle.std.specs.Option.{IfSome, option_map, option_and_then}
 use Rattle.std.specs.Prelude.{⊤}
@@ -109,7 +110,8 @@ module _ (script : Script) (From : ℕ → Change → Option File → Type 0) (s
   abbrev Q : Result (Answer × State) Answer → Type 0
   Q r = answer_of r ≡ Executed number slot count gains → Found (outcome s r).1
 
-  fresh : (casts : List Broadcast) (flags : List ProcessFlag) (place file : ℕ) (p : Prepared) (owner : Task) (last : Changed) → position (λ p. p.label == label) s.prepared ≡ Some place
+  fresh : (casts : List Broadcast) (flags : List ProcessFlag) (place file : ℕ) (p : Prepared) (owner : Task) (last : Changed)
+      → position (λ p. p.label == label) s.prepared ≡ Some place
       → slice_get s.prepared place ≡ Some p → p.changed ≡ Some last → task_of s p.task ≡ Some owner → owner.current ≡ p.base
       → last.change ≡ Exec file → number ≡ length s.creds → slot ≡ p.slot → gains ≡ last.gains
       → Found (record (committed (ended (is_beside owner) s) place p owner.current last.cred) { casts = casts; dumpable = flags })
@@ -122,7 +124,9 @@ module _ (script : Script) (From : ℕ → Change → Option File → Type 0) (s
       let Made_of : Prepared → Changed → Type 0 = λ p last. IsMadeFrom (From p.label last.change) script (numbered s.creds p.base) last in
       let made_of = subst (λ o. IfSome o (Made_of p)) changed (All-at (λ (p : Prepared). IfSome p.changed (Made_of p)) s.prepared place p is are) in
       let by = subst (λ found. IsMadeFrom (From p.label last.change) script found last) base.1 made_of in
-      let how = subst (λ change. by_change by.0 (chain_of script old.cred.ns) old.cred change ≡ Ok (record { answer = by.1; cred = last.cred; gains = last.gains })) executes by.2 in
+      let how =
+      subst (λ change. by_change by.0 (chain_of script old.cred.ns) old.cred change ≡ Ok (record { answer = by.1; cred = last.cred; gains = last.gains }))
+      executes by.2 in
       let rule = ruled by.0 (chain_of script old.cred.ns) old.cred by.1 last.cred last.gains how in
       let rest = survivors (is_beside owner) s.tasks in
       let named : (owner.number == p.task) ≡ true = (find_goes_on (is_beside owner) s.tasks p.task owner lives (stays_itself owner)).1 in
@@ -142,7 +146,9 @@ module _ (script : Script) (From : ℕ → Change → Option File → Type 0) (s
           executes = executes;
           lives = lives;
           had = ap (option_and_then (λ (t : Task). numbered s.creds t.current)) lives ∙ ap (numbered s.creds) same ∙ base.1;
-          has = ap (option_and_then (λ (t : Task). numbered creds t.current)) (updated_task rest p.task (length s.creds) p.task ∙ ap (option_map (updated p.task (length s.creds))) on)
+          has =
+              ap (option_and_then (λ (t : Task). numbered creds t.current))
+              (updated_task rest p.task (length s.creds) p.task ∙ ap (option_map (updated p.task (length s.creds))) on)
               ∙ ap (numbered creds) (renewed_itself owner p.task (length s.creds) named)
               ∙ numbered_last s.creds (record { cred = last.cred; slot = p.slot });
           sealed = (sym at_number, sym at_slot);

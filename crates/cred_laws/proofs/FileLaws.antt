@@ -1,5 +1,6 @@
 -- What an event makes of a file.
-use Rattle.std.proofs.Common.{◌≡◌, ◌≢◌, ◌==◌, ℕ, zero, suc, List, [], ◌∷◌, slice_get, slice_set, Option, Some, None, Result, Ok, Err, Bool, true, false, not, cond, refl, sym, ap, ◌∙◌, subst}
+use Rattle.std.proofs.Common.{◌≡◌, ◌≢◌, ◌==◌, ℕ, zero, suc, List, [], ◌∷◌, slice_get, slice_set, Option, Some, None, Result, Ok, Err, Bool, true, false, not}
+use Rattle.std.proofs.Common.{cond, refl, sym, ap, ◌∙◌, subst}
 use Rattle.std.specs.Option.{IfSome}
 use Rattle.std.specs.Int.Bits.{bit_and, and_zero_r}
 use Rattle.std.proofs.lemmas.Bool.{eqb-true, eqb-false}
@@ -10,15 +11,15 @@ use Rattle.cred_record.specs.File.{File}
 use Rattle.cred_record.specs.declared.refusal.Denial.{Denial}
 use Rattle.cred_record.specs.declared.refusal.Denial.TheVariants.{Perm, Invalid}
 use Rattle.cred_rules.specs.Files.{may_chown, chown, chowned, strips, stripped}
-use Rattle.cred_rules.specs.Modes.{SET_USER, SET_GROUP, GROUP_EXECUTE, has_any, without}
+use Rattle.cred_rules.specs.Modes.{SET_USER, SET_GROUP, GROUP_EXECUTE, has_any, without_bits}
 use Rattle.cred_event.specs.declared.answer.Answer.{Answer}
 use Rattle.cred_event.specs.declared.answer.Answer.TheVariants.{Done}
 use Rattle.cred_event.specs.declared.event.Event.{Event}
 use Rattle.cred_event.specs.declared.event.Event.TheVariants.{Chown, Chmod, SetAttr}
 use Rattle.cred_model.specs.Answers.{refusal}
 use Rattle.cred_model.specs.Change.{by_rule}
-use Rattle.cred_model.specs.Changing.{changed_file, changed_by}
-use Rattle.cred_model.specs.Moves.{◌>>=◌}
+use Rattle.cred_model.specs.FileChanges.{changed_file, changed_by}
+use Rattle.cred_ids.specs.Tests.{◌>>=◌}
 use Rattle.cred_model.specs.Script.{Script}
 use Rattle.cred_model.specs.State.{State, held_by}
 use Rattle.cred_model.specs.Step.{done, outcome, step}
@@ -70,15 +71,15 @@ files_change_by_calls script s line event place old new was is differ =
 
 -- ---- what a chown takes away
 
-without_clear : (mode : ℕ) → has_any (without mode SET_USER) SET_USER ≡ false
+without_clear : (mode : ℕ) → has_any (without_bits mode SET_USER) SET_USER ≡ false
 without_clear mode = ap (λ n. not (n == 0)) (and_assoc 2048 mode 2047 ∙ and_zero_r mode)
 
-without_both : (mode : ℕ) → has_any (without (without mode SET_USER) SET_GROUP) SET_USER ≡ false
-without_both mode = ap (λ n. not (n == 0)) (and_assoc 2048 (without mode SET_USER) 3071) ∙ without_clear mode
+without_both : (mode : ℕ) → has_any (without_bits (without_bits mode SET_USER) SET_GROUP) SET_USER ≡ false
+without_both mode = ap (λ n. not (n == 0)) (and_assoc 2048 (without_bits mode SET_USER) 3071) ∙ without_clear mode
 
 stripped_clear : (mode : ℕ) → has_any (stripped mode) SET_USER ≡ false
 stripped_clear mode =
-    elim (has_any mode GROUP_EXECUTE) as (λ b. has_any (cond b (without (without mode SET_USER) SET_GROUP) (without mode SET_USER)) SET_USER ≡ false) [
+    elim (has_any mode GROUP_EXECUTE) as (λ b. has_any (cond b (without_bits (without_bits mode SET_USER) SET_GROUP) (without_bits mode SET_USER)) SET_USER ≡ false) [
       | true ↦ without_both mode
       | false ↦ without_clear mode
     ]

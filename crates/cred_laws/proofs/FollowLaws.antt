@@ -1,6 +1,7 @@
 -- What the threads that don't wait in a broadcast have: kept by what becomes of tasks, credentials
 -- and broadcasts. All of it is over plain lists.
-use Rattle.std.proofs.Common.{◌≡◌, ◌≢◌, ◌==◌, ◌||◌, not, ℕ, List, [], ◌∷◌, ◌++◌, map, get_or, Option, Some, None, Bool, true, false, cond, refl, sym, ap, ◌∙◌, subst, arith}
+use Rattle.std.proofs.Common.{◌≡◌, ◌≢◌, ◌==◌, ◌||◌, not, ℕ, List, [], ◌∷◌, ◌++◌, map, get_or, Option, Some, None, Bool, true, false, cond, refl, sym, ap, ◌∙◌}
+use Rattle.std.proofs.Common.{subst, arith}
 use Rattle.std.specs.List.{All, AllPairs, filter, find, list_any}
 use Rattle.std.specs.Option.{option_map, option_or}
 use Rattle.std.proofs.lemmas.List.Elements.{All-filter, All-map, All-weaker}
@@ -69,7 +70,8 @@ still_without task left waiting other still = sym (any_without task left waiting
 
 -- ---- a child
 
-waits_more : (child : ℕ) (cast : Broadcast) (task : ℕ) → waits task (in_order (cast.waiting ++ child ∷ [])) ≡ (waits task cast.waiting || ((child == task) || false))
+waits_more : (child : ℕ) (cast : Broadcast) (task : ℕ)
+    → waits task (in_order (cast.waiting ++ child ∷ [])) ≡ (waits task cast.waiting || ((child == task) || false))
 waits_more child cast task =
     any-in_order (λ n. n == task) (cast.waiting ++ child ∷ []) ∙ list_any-append (λ n. n == task) cast.waiting (child ∷ [])
 

@@ -1,5 +1,6 @@
 -- What each event leaves to the threads that don't wait in an open broadcast.
-use Rattle.std.proofs.Common.{◌≡◌, ◌≢◌, ◌==◌, not, ℕ, List, [], ◌∷◌, ◌++◌, length, map, get_or, slice_get, Some, None, Ok, Bool, true, false, cond, refl, sym, ap, ◌∙◌, subst, arith}
+use Rattle.std.proofs.Common.{◌≡◌, ◌≢◌, ◌==◌, not, ℕ, List, [], ◌∷◌, ◌++◌, length, map, get_or, slice_get, Some, None, Ok, Bool, true, false, cond, refl, sym}
+use Rattle.std.proofs.Common.{ap, ◌∙◌, subst, arith}
 use Rattle.std.specs.List.{All, filter, find}
 use Rattle.std.specs.Option.{IfSome, option_and_then}
 use Rattle.std.proofs.lemmas.List.{append-nil, length_push}
@@ -27,12 +28,14 @@ use Rattle.cred_model.proofs.Numbers.{numbered_is, numbered_last, overriding_as,
 use Rattle.cred_model.proofs.Rising.{All-passed, length-in_order}
 use Rattle.cred_sound.specs.Casts.{IsThread, IsUnderWay}
 use Rattle.cred_sound.specs.Sound.{IsSound}
-use Rattle.cred_sound.proofs.Parts.{sealed_cred, begun, casts_left, TasksChange, Cause, Creation, Death, ByBegin, ByAct, ByRaw, ByCommit, BySpawn, ByFork, ByExit, ByAbort, SameTasks, SetsFlag, Creates, Shares, Renews, Overrides, Fewer}
+use Rattle.cred_sound.proofs.Parts.{sealed_cred, begun, casts_left, TasksChange, Cause, Creation, Death, ByBegin, ByAct, ByRaw, ByCommit, BySpawn, ByFork}
+use Rattle.cred_sound.proofs.Parts.{ByExit, ByAbort, SameTasks, SetsFlag, Creates, Shares, Renews, Overrides, Fewer}
 use Rattle.cred_sound.proofs.Threads.{not_true, thread_is}
 use Rattle.cred_laws.specs.Broadcast.{Completes}
 use Rattle.cred_laws.specs.Made.{IsChangedFrom, IsMade, AreMade}
 use Rattle.cred_laws.proofs.NamedLaws.{AreSame, change-same, is_exec}
-use Rattle.cred_laws.proofs.FollowLaws.{HasOr, Followed, waits, followed_more, followed_waiting, followed_renewed, still_without, still_with, parent_with, found_in, shown, left_open, joined_open, begun_beside, dropped_beside, dropped_none}
+use Rattle.cred_laws.proofs.FollowLaws.{HasOr, Followed, waits, followed_more, followed_waiting, followed_renewed, still_without, still_with, parent_with}
+use Rattle.cred_laws.proofs.FollowLaws.{found_in, shown, left_open, joined_open, begun_beside, dropped_beside, dropped_none}
 
 -- what a broadcast sets decides whether P holds of a credential
 abbrev pub Kept : (Credential → Type 0) → Type 0

@@ -1,5 +1,6 @@
 -- Every journal is lawful.
-use Rattle.std.proofs.Common.{◌≡◌, ◌≢◌, ℕ, ◌+◌, ◌<◌, ◌≤◌, inl, inr, zero, suc, List, ◌++◌, length, take, drop, slice_get, Option, Some, None, true, false, refl, sym, ap, ◌∙◌, subst, arith}
+use Rattle.std.proofs.Common.{◌≡◌, ◌≢◌, ℕ, ◌+◌, ◌<◌, ◌≤◌, inl, inr, zero, suc, List, ◌++◌, length, take, drop, slice_get, Option, Some, None, true, false, refl}
+use Rattle.std.proofs.Common.{sym, ap, ◌∙◌, subst, arith}
 use Rattle.std.specs.List.{All}
 use Rattle.std.specs.Option.{IfSome, option_map}
 use Rattle.std.proofs.lemmas.Bool.{cases_lt}
@@ -35,9 +36,11 @@ use Rattle.cred_laws.specs.Execve.{IsExecve}
 use Rattle.cred_laws.specs.Files.{HasStripped, resets}
 use Rattle.cred_laws.specs.Made.{AreMadeFrom}
 use Rattle.cred_laws.specs.Raw.{IsRaw}
-use Rattle.cred_model.specs.Changing.{changed_file}
+use Rattle.cred_model.specs.FileChanges.{changed_file}
 use Rattle.cred_laws.specs.Trace.{IsOwn, AsksWithoutCap, HasThreads, IsAskedFor, IsExecuted}
-use Rattle.cred_laws.specs.Journals.{state_at, IsAlwaysSound, IsAlwaysMade, IsAlwaysValid, LooksIntoOwn, LeavesClear, StaysUndumpable, WritesUnusedSlots, KeepsSealed, KeepsHeld, KeepsOpeners, KeepsPrepared, OverridesLeave, ExecvesByTheRule, GainsAsAnswered, CreatesTasks, CompletesForAll, JournalsAreLawful, IsFileOf, FilesStay, ChownsStrip, RawsLeave, RawsByTheRule}
+use Rattle.cred_laws.specs.Journals.{state_at, IsAlwaysSound, IsAlwaysMade, IsAlwaysValid, LooksIntoOwn, LeavesClear, StaysUndumpable, WritesUnusedSlots}
+use Rattle.cred_laws.specs.Journals.{KeepsSealed, KeepsHeld, KeepsOpeners, KeepsPrepared, OverridesLeave, ExecvesByTheRule, GainsAsAnswered, CreatesTasks}
+use Rattle.cred_laws.specs.Journals.{CompletesForAll, JournalsAreLawful, IsFileOf, FilesStay, ChownsStrip, RawsLeave, RawsByTheRule}
 use Rattle.cred_laws.specs.Broadcast.{HasNamed, AllHave, Completes}
 use Rattle.cred_laws.proofs.AlikeLaws.{keeps_alike}
 use Rattle.cred_laws.proofs.BroadcastLaws.{calls_are_every_threads, followed_after}
@@ -152,7 +155,8 @@ gains_by : (script : Script) (journal : List Entry) (k task : ℕ) (before after
     → IfSome o (λ entry. permitted.GainsBy entry.answer before after)
 gains_by script journal k task before after (Some entry) is answered was now =
     subst (λ answer. permitted.GainsBy answer before after) (sym answered)
-    (permitted_gains script (state_at script journal k) entry.line entry.event task before after (always_sound script journal k) (always_made script journal k) was
+    (permitted_gains script (state_at script journal k) entry.line entry.event task before after (always_sound script journal k) (always_made script journal k)
+    was
     (ap (λ (s : State). current_of s task) (sym (step_at script journal k entry is)) ∙ now))
 gains_by script journal k task before after None is answered was now = tt
 
@@ -195,7 +199,9 @@ creates_tasks script journal k task after none now =
 
 completes_by : (script : Script) (journal : List Entry) (k process : ℕ) (call : IdCall) (o : Option Entry) → slice_get journal k ≡ o
     → IfSome o (λ entry. entry.answer ≡ (step script (state_at script journal k) entry.line entry.event).0)
-    → IfSome o (λ entry. Completes (state_at script journal k) entry.event entry.answer (state_at script journal (k + 1)) process call → AllHave (HasNamed call) (state_at script journal (k + 1)) process)
+    → IfSome o
+    (λ entry. Completes (state_at script journal k) entry.event entry.answer (state_at script journal (k + 1)) process call
+    → AllHave (HasNamed call) (state_at script journal (k + 1)) process)
 completes_by script journal k process call (Some entry) is answered =
     let s = state_at script journal k in
     let Then : State → Answer → Type 0 = λ t answer. Completes s entry.event answer t process call → AllHave (HasNamed call) t process in
@@ -211,7 +217,9 @@ completes_for_all script journal answered k process call =
 
 looks_by : (script : Script) (journal : List Entry) (k process : ℕ) (mode : Mode) (own other : Credential) (o : Option Entry)
     → IfSome o (λ entry. entry.answer ≡ (step script (state_at script journal k) entry.line entry.event).0)
-    → IfSome o (λ entry. AsksWithoutCap (state_at script journal k) entry.event mode own other process → entry.answer ≡ Done → IsOwn mode own other × (is_dumpable (state_at script journal k).dumpable process ≡ true))
+    → IfSome o
+    (λ entry. AsksWithoutCap (state_at script journal k) entry.event mode own other process → entry.answer ≡ Done
+    → IsOwn mode own other × (is_dumpable (state_at script journal k).dumpable process ≡ true))
 looks_by script journal k process mode own other (Some entry) answered =
     λ asks done.
     looks_into_own_alone script (state_at script journal k) entry.line entry.event mode own other process (always_valid script journal k) asks

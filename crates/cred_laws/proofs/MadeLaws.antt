@@ -39,7 +39,9 @@ bases_sealed s sound k d lt =
 pub the_one : (s : State) (label : ℕ) (p : Prepared) → IsSound s → prepared_of s label ≡ Some p
     → All (λ q. (q.label == label) ≡ true → q ≡ p) s.prepared
 the_one s label p sound is =
-    let at = found (λ (x : Prepared). All (λ (y : Prepared). y.label ≡ x.label → y ≡ x) s.prepared) (λ (q : Prepared). q.label == label) s.prepared p is (alone (λ (p : Prepared). p.label) s.prepared sound.prepared) in
+    let at =
+    found (λ (x : Prepared). All (λ (y : Prepared). y.label ≡ x.label → y ≡ x) s.prepared) (λ (q : Prepared). q.label == label) s.prepared p is
+    (alone (λ (p : Prepared). p.label) s.prepared sound.prepared) in
     All-weaker (λ (q : Prepared). q.label ≡ p.label → q ≡ p) (λ q. (q.label == label) ≡ true → q ≡ p)
     (λ q same test. same (eqb-true q.label label test ∙ sym (eqb-true p.label label at.1))) s.prepared at.0
 
@@ -71,7 +73,8 @@ step_made script s line event sound made =
     let t = (step script s line event).1 in
     let sealed = bases_sealed s sound in
     all_made script s event c.left t sound c.creds c.prepared (λ k d lt.
-    subst (λ found. IfSome (get_or s.prepared k d).changed (IsChangedFrom script found)) (sym (same_numbered s event c.left t c.creds _ (sealed k d lt))) (made k d lt))
+    subst (λ found. IfSome (get_or s.prepared k d).changed (IsChangedFrom script found)) (sym (same_numbered s event c.left t c.creds _ (sealed k d lt)))
+    (made k d lt))
 
 made_from : (script : Script) (journal : List Entry) (s : State) → IsSound s → AreMade script s
     → AreMade script (fold (λ (state : State) (entry : Entry). (step script state entry.line entry.event).1) s journal)

@@ -20,7 +20,8 @@ use Rattle.cred_record.specs.declared.refusal.Denial.TheVariants.{Perm, Invalid}
 use Rattle.cred_record.specs.Credential.{Credential, capable}
 use Rattle.cred_record.specs.File.{File}
 use Rattle.cred_rules.specs.Access.{access_credential}
-use Rattle.cred_rules.specs.Adjust.{is_no_cap, may_capset, may_raise, may_set_bits, after_capset, after_bound_drop, after_amb_raise, after_amb_lower, after_bits, after_keep_caps, after_no_new_privs, adjust}
+use Rattle.cred_rules.specs.Adjust.{is_no_cap, may_capset, may_raise, may_set_bits, after_capset, after_bound_drop, after_amb_raise, after_amb_lower}
+use Rattle.cred_rules.specs.Adjust.{after_bits, after_keep_caps, after_no_new_privs, adjust}
 use Rattle.cred_rules.specs.SetFs.{set_fs, old_fs}
 use Rattle.cred_rules.specs.SetId.{for_users, for_groups, id_or, three, after_setuid, after_seteuid, after_setreuid, after_setresuid, set_id}
 use Rattle.cred_setid.proofs.SetIdLaws.{for_users-gives, for_groups-gives, permitted-gives, setgroups-gives}

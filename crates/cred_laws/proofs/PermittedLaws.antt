@@ -1,5 +1,6 @@
 -- How the permitted set of a task's credential may change.
-use Rattle.std.proofs.Common.{◌≡◌, ◌==◌, ◌⊎◌, inl, inr, ℕ, ◌<◌, List, [], ◌∷◌, ◌++◌, length, Option, Some, None, Ok, Bool, true, false, cond, refl, sym, ap, ◌∙◌, subst, arith}
+use Rattle.std.proofs.Common.{◌≡◌, ◌==◌, ◌⊎◌, inl, inr, ℕ, ◌<◌, List, [], ◌∷◌, ◌++◌, length, Option, Some, None, Ok, Bool, true, false, cond, refl, sym, ap}
+use Rattle.std.proofs.Common.{◌∙◌, subst, arith}
 use Rattle.std.specs.List.{find}
 use Rattle.std.specs.Option.{IfSome, option_map, option_and_then, option_or}
 use Rattle.std.proofs.lemmas.List.Folds.{find-append}
@@ -23,7 +24,8 @@ use Rattle.cred_model.proofs.Lists.{All-at}
 use Rattle.cred_model.proofs.Numbers.{current_is, at_owner, owner_number, numbered_stays, numbered_last, updated_task, overriding_task, sealed_cred_of}
 use Rattle.cred_sound.specs.Sound.{IsSound}
 use Rattle.cred_sound.proofs.Survivors.{find_survivor, find_no_survivor}
-use Rattle.cred_sound.proofs.Parts.{sealed_cred, Cause, Creation, CredsChange, TasksChange, SameCreds, Seals, ByBegin, ByAct, ByRaw, ByCommit, BySpawn, ByFork, SameTasks, SetsFlag, Creates, Shares, Renews, Overrides, Fewer}
+use Rattle.cred_sound.proofs.Parts.{sealed_cred, Cause, Creation, CredsChange, TasksChange, SameCreds, Seals, ByBegin, ByAct, ByRaw, ByCommit, BySpawn, ByFork}
+use Rattle.cred_sound.proofs.Parts.{SameTasks, SetsFlag, Creates, Shares, Renews, Overrides, Fewer}
 use Rattle.cred_sound.proofs.Events.{changes}
 use Rattle.cred_laws.specs.Made.{IsChangedFrom, IsMade, AreMade}
 use Rattle.cred_laws.specs.Permitted.{GainsBy, PermittedGains, IsCreatedWith}
@@ -119,7 +121,8 @@ caused_gains script s event task owner ends old c made are current number (ByCom
     let base : numbered s.creds p.base ≡ Some old = ap (numbered s.creds) (sym same ∙ number) ∙ under_number s task old current in
     let by = subst (λ found. IsChangedFrom script found last) base so in
     ap (λ (c : Credential). less c.perm old.cred.perm) cred
-    ∙ change_gains by.0 (chain_of script old.cred.ns) old.cred last.change (record { answer = by.1; cred = last.cred; gains = last.gains }) (length s.creds) slot count by.2
+    ∙ change_gains by.0 (chain_of script old.cred.ns) old.cred last.change (record { answer = by.1; cred = last.cred; gains = last.gains }) (length s.creds)
+    slot count by.2
     ∙ ap gain_told (sym answered)
 
 -- The event gives the task this credential in the place of the old one.
@@ -245,7 +248,8 @@ nobody tasks creds task c none is =
     let empty : None ≡ Some c = sym (ap (option_and_then (λ (t : Task). numbered creds t.current)) none) ∙ is in cc
 
 first_at : (script : Script) (s : State) (number process task user group ns slot : ℕ) (c : Numbered) (b : Bool) → (number == task) ≡ b
-    → option_and_then (λ (t : Task). numbered (s.creds ++ sealed_cred (first_credential user group ns (root_of script ns)) slot ∷ []) t.current) (cond b (Some (first_task number process (length s.creds))) None) ≡ Some c
+    → option_and_then (λ (t : Task). numbered (s.creds ++ sealed_cred (first_credential user group ns (root_of script ns)) slot ∷ []) t.current)
+    (cond b (Some (first_task number process (length s.creds))) None) ≡ Some c
     → IsCreatedWith script s (Init number process user group ns) task c
 first_at script s number process task user group ns slot c true test now =
     let same : number ≡ task = grind (arith, nat_tests) in
@@ -286,7 +290,8 @@ created_by script s event made task after (Creates number process user group ns 
     (first_at script s number process task user group ns slot after (number == task) refl
     (sym (ap (λ tasks. current_in tasks made.1.creds task) tasks
     ∙ ap (λ creds. current_in (s.tasks ++ first ∷ []) creds task) creds
-    ∙ ap (option_and_then (λ (t : Task). numbered (s.creds ++ sealed_cred (first_credential user group ns (root_of script ns)) slot ∷ []) t.current)) owner) ∙ now))
+    ∙ ap (option_and_then (λ (t : Task). numbered (s.creds ++ sealed_cred (first_credential user group ns (root_of script ns)) slot ∷ []) t.current))
+    owner) ∙ now))
 created_by script s event made task after (Shares parent child process shared tasks creds current fresh creation) none now =
     let first = first_task child process shared.number in
     let owner = find-append (λ (t : Task). t.number == task) s.tasks (first ∷ [])

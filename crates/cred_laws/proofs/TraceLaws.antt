@@ -1,5 +1,6 @@
 -- Who looks into whom without CAP_SYS_PTRACE, and which processes stop being dumpable.
-use Rattle.std.proofs.Common.{◌≡◌, ◌≢◌, ◌==◌, ◌&&◌, ◌||◌, ◌⊎◌, inl, inr, not, ℕ, ◌+◌, ◌<◌, List, [], ◌∷◌, ◌++◌, length, find, is_some, Option, Some, None, Result, Ok, Err, Bool, true, false, cond, refl, sym, ap, ◌∙◌, subst, arith}
+use Rattle.std.proofs.Common.{◌≡◌, ◌≢◌, ◌==◌, ◌&&◌, ◌||◌, ◌⊎◌, inl, inr, not, ℕ, ◌+◌, ◌<◌, List, [], ◌∷◌, ◌++◌, length, find, is_some, Option, Some, None}
+use Rattle.std.proofs.Common.{Result, Ok, Err, Bool, true, false, cond, refl, sym, ap, ◌∙◌, subst, arith}
 use Rattle.std.specs.List.{filter}
 use Rattle.std.specs.Option.{option_map, option_map_or, option_and_then, option_or}
 use Rattle.std.proofs.lemmas.Bool.{eqb-true, eqb-false}
@@ -24,11 +25,13 @@ use Rattle.cred_model.specs.State.{State, Task, Hold, Prepared, Changed, Numbere
 use Rattle.cred_model.specs.Ends.{is_thread_of, is_beside}
 use Rattle.cred_caps.specs.Numbers.{SYS_PTRACE}
 use Rattle.cred_model.specs.Ptrace.{asking_caps, are_all, has_asking_ids, has_sys_ptrace, is_no_stronger, may_trace}
-use Rattle.cred_model.specs.Dumpable.{flag_in, is_dumpable, with_process_flag, flagged, set_flag, without_flag, differs, renewed, is_gain, flags_by, differs_by, flags_begun, flags_left, flag_of_value}
+use Rattle.cred_model.specs.Dumpable.{flag_in, is_dumpable, with_process_flag, flagged, set_flag, without_flag, differs, renewed, is_gain, flags_by, differs_by}
+use Rattle.cred_model.specs.Dumpable.{flags_begun, flags_left, flag_of_value}
 use Rattle.cred_model.specs.Step.{commit_answer, committed_by, by_ptrace, done, step}
 use Rattle.cred_model.proofs.Lists.{find_changed, none_found}
 use Rattle.cred_sound.specs.Sound.{IsSound}
-use Rattle.cred_sound.proofs.Parts.{TasksChange, Cause, Creation, ByBegin, ByAct, ByRaw, ByCommit, BySpawn, ByFork, ByExit, ByAbort, SameTasks, SetsFlag, Creates, Shares, Renews, Overrides, Fewer}
+use Rattle.cred_sound.proofs.Parts.{TasksChange, Cause, Creation, ByBegin, ByAct, ByRaw, ByCommit, BySpawn, ByFork, ByExit, ByAbort, SameTasks, SetsFlag}
+use Rattle.cred_sound.proofs.Parts.{Creates, Shares, Renews, Overrides, Fewer}
 use Rattle.cred_sound.proofs.Events.{changes}
 use Rattle.cred_sound.proofs.Threads.{not_true}
 use Rattle.cred_laws.specs.Made.{AreMade}
@@ -64,7 +67,9 @@ traced script s from hold to target mode =
     (λ receiver asked. some_case Q (held_by s hold) _ _ (λ answered. cc)
     (λ own held. some_case Q (held_by s target) _ _ (λ answered. cc)
     (λ other targeted.
-    let may = may_trace own.cred other.cred (sender.process == receiver.process) (reaches script.namespaces own.cred.ns other.cred.ns) (is_dumpable s.dumpable receiver.process) mode in
+    let may =
+    may_trace own.cred other.cred (sender.process == receiver.process) (reaches script.namespaces own.cred.ns other.cred.ns)
+    (is_dumpable s.dumpable receiver.process) mode in
     elim may as (λ b. may ≡ b → answer_of (cond {A = Result (Answer × State) Answer} b (Ok (Done, s)) (Err Eperm)) ≡ Done → Traced script s from hold to target mode) [
       | true ↦ λ is answered. record {
         sender = sender;

@@ -1,8 +1,10 @@
 -- No event but a commit answers that an execve is completed.
-use Rattle.std.proofs.Common.{◌≡◌, ◌==◌, ◌-◌, ℕ, List, [], ◌∷◌, length, nat_lt, position, slice_get, Option, Some, None, Result, Ok, Err, ok_or, Bool, true, false, cond, refl}
+use Rattle.std.proofs.Common.{◌≡◌, ◌==◌, ◌-◌, ℕ, List, [], ◌∷◌, length, nat_lt, position, slice_get, Option, Some, None, Result, Ok, Err, ok_or, Bool, true}
+use Rattle.std.proofs.Common.{false, cond, refl}
 use Rattle.std.specs.List.{find}
 use Rattle.std.specs.Option.{option_map_or}
 use Rattle.cred_ids.specs.Limits.{TASKS, OPEN_FILES, HOLDS, PREPARED, DEPTH}
+use Rattle.cred_ids.specs.Tests.{◌>>=◌}
 use Rattle.cred_record.specs.Credential.{Credential, first_credential}
 use Rattle.cred_record.specs.File.{File}
 use Rattle.cred_record.specs.declared.refusal.Denial.{Denial}
@@ -22,18 +24,22 @@ use Rattle.cred_event.specs.declared.event.Change.TheVariants.{SetFs, Adjust, Ex
 use Rattle.cred_event.specs.declared.event.Query.{Query}
 use Rattle.cred_event.specs.declared.event.Query.TheVariants.{Ids, Caps, Groups, Bits, Capable, Bset, AmbIs, Check}
 use Rattle.cred_event.specs.declared.event.Event.{Event}
-use Rattle.cred_event.specs.declared.event.Event.TheVariants.{Init, Take, TakeFile, Release, Ask, Signal, Prepare, Alter, Commit, Abort, Override, Revert, Begin, Act, OpenFile, CloseFile, Spawn, Fork, Exit, Sweep, Dumpable, Dumped, Ptrace, Chown, Chmod, SetAttr, Stat, Raw}
+use Rattle.cred_event.specs.declared.event.Event.TheVariants.{Init, Take, TakeFile, Release, Ask, Signal, Prepare, Alter, Commit, Abort, Override, Revert}
+use Rattle.cred_event.specs.declared.event.Event.TheVariants.{Begin, Act, OpenFile, CloseFile, Spawn, Fork, Exit, Sweep, Dumpable, Dumped, Ptrace, Chown, Chmod}
+use Rattle.cred_event.specs.declared.event.Event.TheVariants.{SetAttr, Stat, Raw}
+use Rattle.cred_event.specs.Answers.{is_ok}
 use Rattle.cred_model.specs.Script.{Script, chain_of, root_of, reaches}
 use Rattle.cred_model.specs.Named.{change_files}
-use Rattle.cred_model.specs.State.{State, Broadcast, Task, Numbered, numbered, task_of, cast_of, cast_in, begun_by, open_of, hold_of, prepared_of, credential_of, opener_of, held_by, info_of}
+use Rattle.cred_model.specs.State.{State, Broadcast, Task, Numbered, numbered, task_of, cast_of, cast_in, begun_by, open_of, hold_of, prepared_of}
+use Rattle.cred_model.specs.State.{credential_of, opener_of, held_by, info_of}
 use Rattle.cred_model.specs.Casts.{not_busy, others_of, with_cast, waits_no_more}
 use Rattle.cred_model.specs.Ends.{is_thread_of}
 use Rattle.cred_model.specs.Slots.{free, swept_if_full}
 use Rattle.cred_model.specs.Ptrace.{may_trace}
 use Rattle.cred_model.specs.Dumpable.{is_dumpable, differs, renewed, flags_begun, flag_of_value}
-use Rattle.cred_model.specs.Answers.{refusal, flag, checked, reply, is_ok}
+use Rattle.cred_model.specs.Answers.{refusal, flag, checked, reply}
 use Rattle.cred_model.specs.Change.{Made, made_by_rule, made_by_exec, by_rule, by_change}
-use Rattle.cred_model.specs.Moves.{◌>>=◌, none_or, fewer_or, unless_refused, not_overridden}
+use Rattle.cred_model.specs.Moves.{none_or, fewer_or, unless_refused, not_overridden}
 use Rattle.cred_model.specs.Moves.{in_slot}
 use Rattle.cred_model.specs.Moves.{table_full, first_task, created, preparing, replaced}
 use Rattle.cred_model.specs.Step.{take_hold, for_access, aborted, follow, by_file, done, outcome}
@@ -215,7 +221,10 @@ plain script s line (Init task process user group ns) other =
     (slot_plain s table_full
     (λ t slot. (
       answer.Sealed (length t.creds) slot,
-      record (created t (first_task task process (length t.creds)) (first_credential user group ns (root_of script ns)) slot) { dumpable = flags_begun t process },
+      record (created t (first_task task process (length t.creds)) (first_credential user group ns (root_of script ns)) slot) {
+        dumpable = flags_begun t
+            process;
+      },
     ))
     (λ t. refl) (λ t slot. refl))))
 plain script s line (Take label task side) other =
@@ -237,7 +246,8 @@ plain script s line (Prepare label task hold) other =
     (λ owner. idle_plain (begun_by s task) _ (some_plain (hold_of s hold) _ _ refl
     (λ base. none_plain (hold_of s label) _ _ refl
     (none_plain (prepared_of s label) _ _ refl (fewer_plain (length s.prepared) PREPARED _ _ refl
-    (slot_plain s table_full (λ t slot. (answer.Kept slot, preparing t (record { label = label; task = task; base = base.number; slot = slot; changed = None })))
+    (slot_plain s table_full
+    (λ t slot. (answer.Kept slot, preparing t (record { label = label; task = task; base = base.number; slot = slot; changed = None })))
     (λ t. refl) (λ t slot. refl)))))))
 plain script s line (Alter label change) other =
     some_plain (prepared_of s label) _ _ refl
@@ -311,7 +321,10 @@ plain script s line (Ptrace from hold to target mode) other =
     (λ receiver. some_plain (held_by s hold) _ _ refl
     (λ own. some_plain (held_by s target) _ _ refl
     (λ with.
-    last_plain (may_trace own.cred with.cred (sender.process == receiver.process) (reaches script.namespaces own.cred.ns with.cred.ns) (is_dumpable s.dumpable receiver.process) mode) _ _ s refl refl))))
+    last_plain
+    (may_trace own.cred with.cred (sender.process == receiver.process) (reaches script.namespaces own.cred.ns with.cred.ns)
+    (is_dumpable s.dumpable receiver.process) mode)
+    _ _ s refl refl))))
 plain script s line (Chown hold place owner group) other = file_plain_by s hold place (λ c file. chown c file owner group)
 plain script s line (Chmod hold place mode) other = file_plain_by s hold place (λ c file. chmod c file mode)
 plain script s line (SetAttr hold place attr) other = file_plain_by s hold place (λ c file. set_attr c file attr)

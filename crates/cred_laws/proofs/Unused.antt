@@ -25,7 +25,8 @@ unused s event left t (Seals c slot creds fits origin) order number new past is 
     let long = ap (λ (creds : List SealedCred). length creds) creds in
     let last : number ≡ length s.creds = omega (arith, length_push s.creds (sealed_cred c slot)) in
     let both : Some (record { number = length s.creds; cred = c; slot = slot }) ≡ Some new
-    = sym (ap (λ creds. numbered creds number) creds ∙ ap (numbered (s.creds ++ sealed_cred c slot ∷ [])) last ∙ numbered_last s.creds (sealed_cred c slot)) ∙ is in
+    = sym (ap (λ creds. numbered creds number) creds ∙ ap (numbered (s.creds ++ sealed_cred c slot ∷ [])) last ∙ numbered_last s.creds (sealed_cred c slot))
+    ∙ is in
     let one : record { number = length s.creds; cred = c; slot = slot } ≡ new = cc in
     let fit = fits order in
     subst (IsUnusedSlot s event) (ap (λ (n : Numbered). n.slot) one)

@@ -1,5 +1,6 @@
 -- The sets of each sealed credential are those of a credential.
-use Rattle.std.proofs.Common.{◌≡◌, ◌==◌, ◌<◌, ◌&&◌, ◌||◌, not, nat_lt, ℕ, List, [], ◌∷◌, fold, length, Option, Some, None, Result, Ok, Err, Bool, true, false, cond, refl, sym, ◌∙◌, subst, arith}
+use Rattle.std.proofs.Common.{◌≡◌, ◌==◌, ◌<◌, ◌&&◌, ◌||◌, not, nat_lt, ℕ, List, [], ◌∷◌, fold, length, Option, Some, None, Result, Ok, Err, Bool, true, false}
+use Rattle.std.proofs.Common.{cond, refl, sym, ◌∙◌, subst, arith}
 use Rattle.std.specs.List.{All}
 use Rattle.std.specs.Option.{IfSome}
 use Rattle.std.proofs.lemmas.Bool.{eqb-true}
@@ -23,7 +24,8 @@ use Rattle.cred_record.specs.declared.refusal.Denial.TheVariants.{Perm, Invalid}
 use Rattle.cred_record.specs.Credential.{Credential, AreValidSets, capable, first_credential, is_root}
 use Rattle.cred_record.specs.File.{File}
 use Rattle.cred_rules.specs.Access.{access_credential}
-use Rattle.cred_rules.specs.Adjust.{is_no_cap, may_capset, may_raise, may_set_bits, after_capset, after_bound_drop, after_amb_raise, after_amb_lower, after_bits, after_keep_caps, after_no_new_privs, adjust}
+use Rattle.cred_rules.specs.Adjust.{is_no_cap, may_capset, may_raise, may_set_bits, after_capset, after_bound_drop, after_amb_raise, after_amb_lower}
+use Rattle.cred_rules.specs.Adjust.{after_bits, after_keep_caps, after_no_new_privs, adjust}
 use Rattle.cred_rules.specs.Attribute.{Attribute}
 use Rattle.cred_rules.specs.Exec.{Executed, NoExec, exec, executed_by, after_exec, gains_of, gives_all, may_execute, attribute_for}
 use Rattle.cred_rules.specs.Exec as rule
@@ -317,4 +319,5 @@ valid_from script (entry ∷ journal) s sound are valid =
     (step_made script s entry.line entry.event sound are) (step_valid script s entry.line entry.event sound are valid)
 
 pub valid_journal : SealedAreValid
-valid_journal script journal = valid_from script journal (opening script) (opening_sound script) (λ k d lt. absurd (omega arith)) (λ k d lt. absurd (omega arith))
+valid_journal script journal =
+    valid_from script journal (opening script) (opening_sound script) (λ k d lt. absurd (omega arith)) (λ k d lt. absurd (omega arith))

@@ -1,6 +1,7 @@
 -- What a run makes of the files that its script declares (chown(2), chmod(2), capabilities(7),
 -- "File capabilities"), and which file, as it stood when, an execve was of.
-use Rattle.std.specs.Prelude.{◌≡◌, ◌≢◌, ℕ, Bool, true, false, ◌==◌, ◌&&◌, ◌<◌, List, slice_get, Some}
+use Rattle.std.specs.Prelude.{◌≡◌, ◌≢◌, ℕ, Bool, true, false, ◌==◌, ◌&&◌, ◌<◌, List, slice_get}
+use Rattle.std.specs.Prelude.{Some}
 use Rattle.std.specs.Prelude.{None, IfSome}
 use Rattle.cred_ids.specs.declared.arg.Arg.{Arg}
 use Rattle.cred_record.specs.File.{File}
@@ -11,8 +12,8 @@ use Rattle.cred_event.specs.declared.entry.Entry.{Entry}
 use Rattle.cred_event.specs.declared.event.Change.{Change}
 use Rattle.cred_event.specs.declared.event.Event.{Event}
 use Rattle.cred_event.specs.declared.event.Event.TheVariants.{Alter, Chown, Chmod, SetAttr}
-use Rattle.cred_model.specs.Answers.{is_ok}
-use Rattle.cred_model.specs.Changing.{changed_file}
+use Rattle.cred_event.specs.Answers.{is_ok}
+use Rattle.cred_model.specs.FileChanges.{changed_file}
 use Rattle.cred_model.specs.Script.{Script}
 use Rattle.cred_model.specs.State.{State}
 use Rattle.cred_model.specs.Step.{step}

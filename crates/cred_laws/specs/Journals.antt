@@ -21,7 +21,7 @@ use Rattle.cred_model.specs.Script.{Script}
 use Rattle.cred_model.specs.State.{State, Task, Prepared, Numbered, numbered, task_of, cast_in}
 use Rattle.cred_model.specs.State.{current_of, opener_of, held_by, info_of}
 use Rattle.cred_model.specs.Named.{change_files}
-use Rattle.cred_model.specs.Changing.{changed_file}
+use Rattle.cred_model.specs.FileChanges.{changed_file}
 use Rattle.cred_model.specs.Dumpable.{is_dumpable, differs}
 use Rattle.cred_model.specs.Journal.{replay, IsAnswered}
 use Rattle.cred_sound.specs.Sound.{IsSound}

@@ -1,5 +1,6 @@
 -- A thread that waits makes its step in a broadcast, or its process ends.
-use Rattle.std.proofs.Common.{◌≡◌, ℕ, ◌+◌, ◌-◌, ◌<◌, ◌==◌, not, Bool, true, false, List, [], ◌∷◌, get_or, length, is_some, position, slice_get, Option, None, Some, Ok, Err, refl, sym, ap, ◌∙◌, subst, arith}
+use Rattle.std.proofs.Common.{◌≡◌, ℕ, ◌+◌, ◌-◌, ◌<◌, ◌==◌, not, Bool, true, false, List, [], ◌∷◌, get_or, length, is_some, position, slice_get, Option, None}
+use Rattle.std.proofs.Common.{Some, Ok, Err, refl, sym, ap, ◌∙◌, subst, arith}
 use Rattle.std.specs.Option.{IsSomeAnd}
 use Rattle.std.proofs.lemmas.List.Quantifiers.{position-Some}
 use Rattle.cred_record.specs.Credential.{Credential}
@@ -114,7 +115,11 @@ module _ (s : State) (number task cast_at : ℕ) (cast : Broadcast) (owner : Tas
         → outcome s (by_act s number)
         ≡ (
           Acted task (length s.creds) slot left,
-          record (replaced (swept_if sweep s) task old.number new slot) { casts = waits_no_more task s.casts; dumpable = renewed s.dumpable owner.process (differs old.cred new) },
+          record (replaced (swept_if sweep s) task old.number new slot) {
+            casts = waits_no_more task s.casts;
+            dumpable = renewed s.dumpable owner.process
+                (differs old.cred new);
+          },
         )
     unfolding act_does
     acts sweep slot left is for many =
@@ -122,7 +127,12 @@ module _ (s : State) (number task cast_at : ℕ) (cast : Broadcast) (owner : Tas
         act_tests
         ∙ in_free s (λ r. (Aborted task Full, aborted cast r)) (act_does task owner old new cast) sweep slot is for
         ∙ same sweep
-        ∙ ap (λ (k : ℕ). (Acted task (length s.creds) slot k, record (replaced (swept_if sweep s) task old.number new slot) { casts = waits_no_more task s.casts; dumpable = renewed s.dumpable owner.process (differs old.cred new) })) fewer
+        ∙ ap
+        (λ (k : ℕ). (
+          Acted task (length s.creds) slot k,
+          record (replaced (swept_if sweep s) task old.number new slot) { casts = waits_no_more task s.casts; dumpable = renewed s.dumpable owner.process (differs old.cred new) },
+        ))
+        fewer
       where
         same : (b : Bool)
             → ◌≡◌ {A = Answer × State} (
@@ -133,7 +143,11 @@ module _ (s : State) (number task cast_at : ℕ) (cast : Broadcast) (owner : Tas
               },
             ) (
               Acted task (length s.creds) slot (length cast.waiting - 1),
-              record (replaced (swept_if b s) task old.number new slot) { casts = waits_no_more task s.casts; dumpable = renewed s.dumpable owner.process (differs old.cred new) },
+              record (replaced (swept_if b s) task old.number new slot) {
+                casts = waits_no_more task s.casts;
+                dumpable = renewed s.dumpable owner.process
+                    (differs old.cred new);
+              },
             )
         same true = refl
         same false = refl

@@ -26,7 +26,8 @@ module _ (script : Script) (s : State) (label : ℕ) (change : Change) (p : Prep
       = same_rule ∙ sym rule ∙ refuses in
       rw (there, has, gives) refl
 
-  pub alter_leads : (made : Result Made Answer) (m : Made) (to : Changed) (prepared : List Prepared) → made ≡ by_change file chain base.cred change → made ≡ Ok m
+  pub alter_leads : (made : Result Made Answer) (m : Made) (to : Changed) (prepared : List Prepared) → made ≡ by_change file chain base.cred change
+      → made ≡ Ok m
       → to ≡ record { change = change; cred = m.cred; gains = m.gains } → prepared ≡ with_change s.prepared label to
       → outcome s (by_alter script s label change) ≡ (m.answer, record s { prepared = prepared })
   alter_leads made m to prepared rule allows is_to now =

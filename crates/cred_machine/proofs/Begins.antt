@@ -1,5 +1,6 @@
 -- An id call that a task makes, and what refuses it.
-use Rattle.std.proofs.Common.{◌≡◌, ◌⊎◌, ℕ, ◌==◌, not, Bool, true, false, List, find, is_some, length, Option, Some, Result, Ok, Err, refl, sym, ap, ◌∙◌, inl, inr}
+use Rattle.std.proofs.Common.{◌≡◌, ◌⊎◌, ℕ, ◌==◌, not, Bool, true, false, List, find, is_some, length, Option, Some, Result, Ok, Err, refl, sym, ap, ◌∙◌, inl}
+use Rattle.std.proofs.Common.{inr}
 use Rattle.std.specs.Option.{option_map}
 use Rattle.std.specs.Result.{IfOk}
 use Rattle.cred_setid.specs.Becomes.{IsAnew}
@@ -39,7 +40,8 @@ rule_denied given refusal.Memory is (inr either) = cc
 
 -- ---- what refuses the call
 
-pub begin_busy : (s : State) (line task : ℕ) (call : IdCall) (owner : Task) (old : Numbered) → task_of s task ≡ Some owner → numbered s.creds owner.current ≡ Some old
+pub begin_busy : (s : State) (line task : ℕ) (call : IdCall) (owner : Task) (old : Numbered) → task_of s task ≡ Some owner
+    → numbered s.creds owner.current ≡ Some old
     → (answer : Answer) → not_busy (cast_in s owner.process) ≡ Err answer → outcome s (by_begin s line task call) ≡ (answer, s)
 begin_busy s line task call owner old lives has answer busy = rw (lives, has, busy) refl
 

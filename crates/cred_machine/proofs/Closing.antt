@@ -1,4 +1,4 @@
--- What lets go of one reference leads to, by the parts of the state after it.
+-- What drops one reference leads to, by the parts of the state after it.
 use Rattle.std.proofs.Common.{◌≡◌, ℕ, ◌==◌, List, [], ◌∷◌, ◌++◌, position, remove, slice_get, Some, refl}
 use Rattle.cred_event.specs.declared.answer.Answer.TheVariants.{Done}
 use Rattle.cred_model.specs.State.{State, Hold, OpenFile}

@@ -1,5 +1,6 @@
 -- What a commit leads to, by the parts of the state after it, or how it is refused.
-use Rattle.std.proofs.Common.{◌≡◌, ◌≢◌, ℕ, ◌<◌, ◌==◌, is_some, true, false, Bool, List, [], ◌∷◌, ◌++◌, count_by, get_or, length, position, remove, slice_get, Option, Some, None, Result, Ok, Err, refl, sym, ap, ◌∙◌, subst}
+use Rattle.std.proofs.Common.{◌≡◌, ◌≢◌, ℕ, ◌<◌, ◌==◌, is_some, true, false, Bool, List, [], ◌∷◌, ◌++◌, count_by, get_or, length, position, remove, slice_get}
+use Rattle.std.proofs.Common.{Option, Some, None, Result, Ok, Err, refl, sym, ap, ◌∙◌, subst}
 use Rattle.std.specs.Option.{option_and_then, option_map, option_map_or}
 use Rattle.std.specs.Result.{IfOk}
 use Rattle.std.proofs.lemmas.Result.{IfOk-weaker}
@@ -9,14 +10,14 @@ use Rattle.cred_event.specs.declared.answer.Answer.{Answer}
 use Rattle.cred_event.specs.declared.answer.Answer.TheVariants.{Stale}
 use Rattle.cred_model.specs.State.{State, Broadcast, Changed, Prepared, ProcessFlag, SealedCred, Task, begun_by, numbered, task_of}
 use Rattle.cred_model.specs.Dumpable.{differs, flags_by, flags_committed}
-use Rattle.cred_model.specs.Casts.{not_busy}
+use Rattle.cred_model.specs.Casts.{not_busy, casts_left}
 use Rattle.cred_model.specs.Ends.{left_by, survivors}
 use Rattle.cred_model.specs.Moves.{given_up, not_overridden, with_current}
 use Rattle.cred_model.specs.Step.{by_commit, committed_by, for_task, outcome, try_commit}
 use Rattle.cred_model.proofs.Numbers.{owner_number}
-use Rattle.cred_machine.specs.Labels.{CanCommit, Commits, IsChanged, IsOnCurrent, casts_left}
+use Rattle.cred_machine.specs.Labels.{CanCommit, Commits, IsChanged, IsOnCurrent}
 use Rattle.cred_plain.specs.Tasks.{ending_of, ends_by}
-use Rattle.cred_plain.specs.declared.task.Ending.{Ending}
+use Rattle.cred_plain.specs.declared.one_task.Ending.{Ending}
 use Rattle.cred_sound.proofs.Events.{changed_for_task}
 use Rattle.cred_machine.proofs.Commits.{settled, stale}
 use Rattle.cred_machine.proofs.Events.{commit_tests}
@@ -92,15 +93,18 @@ module _ (s : State) (place : ℕ) (p : Prepared) (owner : Task) (last : Changed
       → ts ≡ us → cs ≡ ds → ps ≡ qs → ms ≡ ns → gs ≡ hs → es ≡ fs → with_parts ts cs ps ms gs es ≡ with_parts us ds qs ns hs fs
   same_parts tasks casts prepared late flags creds = rw (tasks, casts, prepared, late, flags, creds) refl
 
-  pub commits : (ending : Ending) (answer : Answer) (number ended : ℕ) (cred : Credential) (tasks goes_on : List Task) (casts : List Broadcast) (prepared : List Prepared)
-      (numbers late : List ℕ) (flags : List ProcessFlag) (other : Bool) (old creds : List SealedCred) → IsOnCurrent s place → ending ≡ ending_of last.change owner.process p.task
+  pub commits : (ending : Ending) (answer : Answer) (number ended : ℕ) (cred : Credential) (tasks goes_on : List Task) (casts : List Broadcast)
+      (prepared : List Prepared)
+      (numbers late : List ℕ) (flags : List ProcessFlag) (other : Bool) (old creds : List SealedCred) → IsOnCurrent s place
+      → ending ≡ ending_of last.change owner.process p.task
       → number ≡ length old → old ≡ s.creds → ended ≡ count_by (ends_by ending) s.tasks
       → answer ≡ committed_by last.change last.gains number p.slot ended
       → tasks ≡ with_current goes_on p.task number → goes_on ≡ survivors (ends_by ending) s.tasks
       → casts ≡ casts_left last.change owner.process s.casts
       → prepared ≡ remove s.prepared place → numbers ≡ left_by (ends_by ending) s.tasks ++ owner.current ∷ p.base ∷ []
       → late ≡ s.deferred ++ numbers → flags ≡ flags_by last.change last.gains s.dumpable owner.process other
-      → other ≡ option_map_or (λ old. differs old.cred last.cred) (numbered s.creds owner.current) false → cred ≡ last.cred → creds ≡ old ++ record { cred = cred; slot = p.slot } ∷ []
+      → other ≡ option_map_or (λ old. differs old.cred last.cred) (numbered s.creds owner.current) false → cred ≡ last.cred
+      → creds ≡ old ++ record { cred = cred; slot = p.slot } ∷ []
       → Commits s place answer (record s { tasks = tasks; casts = casts; prepared = prepared; deferred = late; dumpable = flags; creds = creds })
   unfolding with_parts
   commits ending answer number ended cred tasks goes_on casts prepared numbers late flags other old creds current ends many same count answers ts goes cs ps left ls fs ids copied es =

@@ -10,7 +10,7 @@ use Rattle.cred_model.specs.Dumpable.{flags_committed}
 use Rattle.cred_model.specs.Ends.{ended, left_by, survivors}
 use Rattle.cred_model.specs.Moves.{committed, given_up, with_current}
 use Rattle.cred_model.specs.Step.{casts_after, committed_by, ends_with, try_commit}
-use Rattle.cred_machine.specs.Labels.{casts_left}
+use Rattle.cred_model.specs.Casts.{casts_left}
 use Rattle.cred_plain.specs.Tasks.{ending_of, ends_by, is_other_thread}
 
 -- which tasks end
@@ -65,9 +65,14 @@ module _ (s : State) (place : ℕ) (p : Prepared) (owner : Task) (last : Changed
       let ends = ends_with last.change owner in
       let now = ends_by (ending_of last.change owner.process p.task) in
       let first : try_commit s place p owner last
-      ≡ (answered ends, record (casts_after last.change owner (committed (ended ends s) place p owner.current last.cred)) { dumpable = flags_committed s owner last })
+      ≡ (
+        answered ends,
+        record (casts_after last.change owner (committed (ended ends s) place p owner.current last.cred)) { dumpable = flags_committed s owner last },
+      )
       = rw test refl in
       first
-      ∙ ap (λ (r : State). (answered ends, record r { dumpable = flags_committed s owner last })) (casts_are last.change owner (committed (ended ends s) place p owner.current last.cred))
+      ∙ ap (λ (r : State). (answered ends, record r { dumpable = flags_committed s owner last }))
+      (casts_are last.change owner (committed (ended ends s) place p owner.current last.cred))
       ∙ ap (λ (late : List ℕ). (answered ends, after ends late)) (append_assoc s.deferred (left_by ends s.tasks) (owner.current ∷ p.base ∷ []))
-      ∙ ap (λ (e : Task → Bool). (answered e, after e (s.deferred ++ (left_by e s.tasks ++ owner.current ∷ p.base ∷ [])))) (ends_are last.change owner p.task own)
+      ∙ ap (λ (e : Task → Bool). (answered e, after e (s.deferred ++ (left_by e s.tasks ++ owner.current ∷ p.base ∷ []))))
+      (ends_are last.change owner p.task own)

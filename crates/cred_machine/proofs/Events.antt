@@ -4,7 +4,8 @@ use Rattle.cred_record.specs.Credential.{Credential, first_credential}
 use Rattle.cred_record.specs.declared.id_call.IdCall.{IdCall}
 use Rattle.cred_rules.specs.SetId.{set_id}
 use Rattle.cred_event.specs.declared.answer.Answer.TheVariants.{Done, Kept, Sealed}
-use Rattle.cred_model.specs.State.{State, Broadcast, Changed, Hold, Prepared, Task, Numbered, begun_by, cast_in, cast_of, hold_of, numbered, prepared_of, task_of}
+use Rattle.cred_model.specs.State.{State, Broadcast, Changed, Hold, Prepared, Task, Numbered, begun_by, cast_in, cast_of, hold_of, numbered, prepared_of}
+use Rattle.cred_model.specs.State.{task_of}
 use Rattle.cred_model.specs.Casts.{joined, not_busy, waits_no_more, others_of}
 use Rattle.cred_model.specs.Dumpable.{differs, flags_begun, flags_left, is_dumpable, with_process_flag}
 use Rattle.cred_model.specs.Ends.{is_task, is_thread_of, left_by, survivors}
@@ -60,8 +61,10 @@ forked s task child process owner parent can unused = rw (can.lives, can.has, ca
 pub init_tests : (s : State) (task process user group ns root : ℕ) → not_busy (cast_in s process) ≡ Ok tt → task_of s task ≡ None
     → nat_lt (length s.tasks) TASKS ≡ true
     → outcome s (by_init s task process user group ns root)
-    ≡ in_slot s table_full (λ r slot.
-    (Sealed (length r.creds) slot, record (created r (first_task task process (length r.creds)) (first_credential user group ns root) slot) { dumpable = flags_begun r process }))
+    ≡ in_slot s table_full (λ r slot. (
+      Sealed (length r.creds) slot,
+      record (created r (first_task task process (length r.creds)) (first_credential user group ns root) slot) { dumpable = flags_begun r process },
+    ))
 init_tests s task process user group ns root idle new few = rw (idle, new, few) refl
 
 pub commit_tests : (s : State) (label place : ℕ) (p : Prepared) (owner : Task) (last : Changed) → position (λ p. p.label == label) s.prepared ≡ Some place

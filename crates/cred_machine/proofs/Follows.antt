@@ -9,10 +9,10 @@ use Rattle.cred_event.specs.declared.answer.Answer.TheVariants.{Aborted, Acted, 
 use Rattle.cred_model.specs.State.{State, Task, Broadcast, ProcessFlag, Numbered, cast_of, task_of, numbered}
 use Rattle.cred_model.specs.Casts.{waits_no_more}
 use Rattle.cred_model.specs.Dumpable.{differs, renewed}
-use Rattle.cred_model.specs.Moves.{replaced}
+use Rattle.cred_model.specs.Moves.{replaced, at_abort}
 use Rattle.cred_model.specs.Slots.{free, least_free}
 use Rattle.cred_model.specs.Step.{aborted, by_act, outcome}
-use Rattle.cred_machine.specs.Room.{at_abort, swept_if}
+use Rattle.cred_machine.specs.Room.{swept_if}
 use Rattle.cred_machine.proofs.Acts.{IsNext, acts}
 
 pub aborts : {E : Type 0} (s after : State) (number task : ℕ) (cause : AbortCause) (cast : Broadcast) (ended : Result Answer E)
@@ -60,7 +60,11 @@ module _ (s : State) (number task cast_at : ℕ) (cast : Broadcast) (owner : Tas
       same : (b : Bool)
           → ◌≡◌ {A = Answer × State} (
             Acted task (length s.creds) slot left,
-            record (replaced (swept_if b s) task old.number made slot) { casts = waits_no_more task s.casts; dumpable = renewed s.dumpable owner.process (differs old.cred made) },
+            record (replaced (swept_if b s) task old.number made slot) {
+              casts = waits_no_more task s.casts;
+              dumpable = renewed s.dumpable owner.process
+                  (differs old.cred made);
+            },
           ) (
             Acted task (length s.creds) slot left,
             record (replaced (swept_if b s) task old.number made slot) {

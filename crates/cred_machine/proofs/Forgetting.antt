@@ -1,5 +1,6 @@
 -- What is forgotten, and what stays so.
-use Rattle.std.proofs.Common.{◌≡◌, ◌==◌, ◌||◌, ◌⊎◌, inl, inr, ℕ, zero, suc, Bool, true, false, List, [], ◌∷◌, ◌++◌, length, map, slice_get, Result, Ok, Err, refl, sym, ap, ◌∙◌, subst, arith}
+use Rattle.std.proofs.Common.{◌≡◌, ◌==◌, ◌||◌, ◌⊎◌, inl, inr, ℕ, zero, suc, Bool, true, false, List, [], ◌∷◌, ◌++◌, length, map, slice_get, Result, Ok, Err}
+use Rattle.std.proofs.Common.{refl, sym, ap, ◌∙◌, subst, arith}
 use Rattle.std.specs.List.{All, Contains, flat_map, list_any}
 use Rattle.std.specs.Option.{IfSome}
 use Rattle.std.specs.Result.{IfOk, OnErr}
@@ -19,7 +20,7 @@ use Rattle.cred_sound.specs.Sound.{IsSound}
 use Rattle.cred_sound.proofs.Parts.{with_left}
 use Rattle.cred_sound.proofs.Sound.{like_sound, step_sound}
 use Rattle.cred_plain.specs.Creds.{gone, slots_of}
-use Rattle.cred_machine.specs.Kept.{KeepsReferred, as_begun, may_have_swept, may_let_go}
+use Rattle.cred_machine.specs.Kept.{KeepsReferred, as_begun, may_have_swept, may_have_dropped}
 use Rattle.cred_plain.specs.References.{is_among, refer_to}
 use Rattle.cred_plain.specs.declared.references.References.{References}
 use Rattle.cred_machine.proofs.Free.{any-map}
@@ -128,7 +129,8 @@ get_push P (y ∷ ys) x (suc n) each last = get_push P ys x n each (λ is. last 
 
 still_kept : (s t : State) → CredsKept s t → All (Contains (refs t)) (refs s) → KeepsReferred s → KeepsReferred t
 still_kept s t (NoneMore same) each before n none =
-    subst (λ (creds : List SealedCred). IfSome (slice_get creds n) (λ sealed. sealed.cred ≡ gone)) (sym same) (before n (not_among (refs s) (refs t) n each none))
+    subst (λ (creds : List SealedCred). IfSome (slice_get creds n) (λ sealed. sealed.cred ≡ gone)) (sym same)
+    (before n (not_among (refs s) (refs t) n each none))
 still_kept s t (OneMore new is there) each before n none =
     subst (λ (creds : List SealedCred). IfSome (slice_get creds n) (λ sealed. sealed.cred ≡ gone)) (sym is)
     (get_push (λ (sealed : SealedCred). sealed.cred ≡ gone) s.creds new n (before n (not_among (refs s) (refs t) n each none))
@@ -145,12 +147,13 @@ stays_kept s t answer keeps unswept before = by keeps.swept
     by : (keeps.left ≡ s.deferred) ⊎ (may_have_swept (length s.deferred) answer (length t.deferred) ≡ true) → KeepsReferred t
     by (inl same) =
         still_kept s t keeps.creds
-        (subst (λ (left : List ℕ). All (Contains (refs t)) (refs (with_left s left))) same (refs_each (Contains (refs t)) (with_left s keeps.left) keeps.each)) before
+        (subst (λ (left : List ℕ). All (Contains (refs t)) (refs (with_left s left))) same (refs_each (Contains (refs t)) (with_left s keeps.left) keeps.each))
+        before
     by (inr swept) = let never : true ≡ false = sym swept ∙ unswept in cc
 
--- so it is where the event let go of nothing
+-- so it is where the event dropped nothing
 pub still_referred : (s t : State) (event : Event) (answer : Answer) → Keeps s (counted event (answer, t))
-    → may_let_go event (length s.deferred) answer (length t.deferred) ≡ false → KeepsReferred s → KeepsReferred t
+    → may_have_dropped event (length s.deferred) answer (length t.deferred) ≡ false → KeepsReferred s → KeepsReferred t
 still_referred s t (Raw task call) answer keeps kept before = stays_kept s t (as_begun answer) keeps kept before
 still_referred s t event answer keeps kept before = stays_kept s t answer keeps kept before
 

@@ -1,10 +1,11 @@
 -- Slots that are free.
-use Rattle.std.proofs.Common.{◌≡◌, ℕ, zero, suc, ◌+◌, ◌<◌, ◌≤◌, ◌==◌, ◌||◌, ◌++◌, Bool, true, false, not, cond, List, [], ◌∷◌, map, find, is_some, Option, Some, refl, sym, ap, ◌∙◌, arith}
+use Rattle.std.proofs.Common.{◌≡◌, ℕ, zero, suc, ◌+◌, ◌<◌, ◌≤◌, ◌==◌, ◌||◌, ◌++◌, Bool, true, false, not, cond, List, [], ◌∷◌, map, find, is_some, Option, Some}
+use Rattle.std.proofs.Common.{refl, sym, ap, ◌∙◌, arith}
 use Rattle.std.specs.List.{list_any, range_with_len}
 use Rattle.std.proofs.lemmas.List.Folds.{list_any-append}
-use Rattle.cred_ids.specs.Limits.{SLOTS}
+use Rattle.cred_ids.specs.Limits.{SLOTS, slots}
 use Rattle.cred_model.specs.State.{State, SealedCred, Prepared}
-use Rattle.cred_model.specs.Slots.{slots, stands_in, least_free, free, swept}
+use Rattle.cred_model.specs.Slots.{stands_in, least_free, free, swept}
 use Rattle.cred_machine.specs.Slots.{is_live_by}
 
 same_found : (p q : ℕ → Bool) (a n : ℕ) → ((k : ℕ) → a ≤ k → k < a + n → p k ≡ q k) → find p (range_with_len a n) ≡ find q (range_with_len a n)

@@ -1,5 +1,6 @@
--- What the events of tasks let go of: nothing, unless there was a sweep.
-use Rattle.std.proofs.Common.{◌≡◌, ◌==◌, ◌&&◌, ◌⊎◌, inl, inr, not, ℕ, List, [], ◌∷◌, ◌++◌, length, slice_get, find, drop, Some, Bool, true, false, cond, refl, sym, ap, ◌∙◌, subst, arith}
+-- What the events of tasks drop: nothing, unless there was a sweep.
+use Rattle.std.proofs.Common.{◌≡◌, ◌==◌, ◌&&◌, ◌⊎◌, inl, inr, not, ℕ, List, [], ◌∷◌, ◌++◌, length, slice_get, find, drop, Some, Bool, true, false, cond, refl}
+use Rattle.std.proofs.Common.{sym, ap, ◌∙◌, subst, arith}
 use Rattle.std.specs.List.{All, Contains, count_by}
 use Rattle.std.specs.Option.{option_map}
 use Rattle.std.proofs.lemmas.Bool.Decides.{nat_tests}
@@ -12,7 +13,8 @@ use Rattle.cred_event.specs.declared.event.Change.TheVariants.{Exec, SetFs, Adju
 use Rattle.cred_model.specs.Casts.{dropped}
 use Rattle.cred_model.specs.Dumpable.{flags_committed}
 use Rattle.cred_model.specs.Ends.{ended, left_by, survivors}
-use Rattle.cred_model.specs.Moves.{committed, created, first_task, given_up, with_override, overridden, overriding, replaced, updated, with_current, with_overrides}
+use Rattle.cred_model.specs.Moves.{committed, created, first_task, given_up, with_override, overridden, overriding, replaced, updated, with_current}
+use Rattle.cred_model.specs.Moves.{with_overrides}
 use Rattle.cred_model.specs.Slots.{refs}
 use Rattle.cred_model.specs.State.{State, Task, Broadcast, Prepared, Changed, Numbered, numbered, task_of}
 use Rattle.cred_model.specs.Step.{casts_after, commit_answer, ends_with, try_commit}
@@ -24,14 +26,17 @@ use Rattle.cred_sound.proofs.Parts.{with_left}
 use Rattle.cred_sound.proofs.References.{overrides_stand, own_refs, owner_stands}
 use Rattle.cred_sound.proofs.Survivors.{find_goes_on}
 use Rattle.cred_machine.specs.Kept.{may_have_swept}
-use Rattle.cred_machine.proofs.Lasting.{IsOwn, currents_before, currents_ended, currents_stay, last_of, overridden_before, overrides_ended, overrides_stay, owned, unremoved}
-use Rattle.cred_machine.proofs.KeptByEvents.{IsLeft, Keeps, OneMore, NoneMore, all_stand, each_before, each_creds, gives_up_prepared, if_left, with_casts, with_flags}
+use Rattle.cred_machine.proofs.Lasting.{IsOwn, currents_before, currents_ended, currents_stay, last_of, overridden_before, overrides_ended, overrides_stay}
+use Rattle.cred_machine.proofs.Lasting.{owned, unremoved}
+use Rattle.cred_machine.proofs.KeptByEvents.{IsLeft, Keeps, OneMore, NoneMore, all_stand, each_before, each_creds, gives_up_prepared, if_left, with_casts}
+use Rattle.cred_machine.proofs.KeptByEvents.{with_flags}
 
 -- the tasks before there was one more
 tasks_before : {P : ℕ → Type 0} {s : State} → EachRef P s → (tasks : List Task) (new : Task) → All (λ t. P t.current) (tasks ++ new ∷ [])
     → All (λ t. All P t.overrides) (tasks ++ new ∷ []) → EachRef P (record s { tasks = tasks })
 tasks_before {P} each tasks new currents overrides =
-    each_tasks each tasks (All-left (λ (t : Task). P t.current) tasks (new ∷ []) currents) (All-left (λ (t : Task). All P t.overrides) tasks (new ∷ []) overrides)
+    each_tasks each tasks (All-left (λ (t : Task). P t.current) tasks (new ∷ []) currents)
+    (All-left (λ (t : Task). All P t.overrides) tasks (new ∷ []) overrides)
 
 -- a first task is created
 pub creates : (s : State) (left : List ℕ) (slot task process : ℕ) (c : Credential) → IsLeft s left
@@ -78,7 +83,8 @@ ends_some s answer left ends casts is =
     at (inr each) = inr (each (length (left ++ left_by ends s.tasks)))
 
 -- the task whose current credential is a new one refers to that
-renewed : (s : State) (tasks : List Task) (task new : ℕ) (owner : Task) → s.tasks ≡ with_current tasks task new → find (λ t. t.number == task) tasks ≡ Some owner
+renewed : (s : State) (tasks : List Task) (task new : ℕ) (owner : Task) → s.tasks ≡ with_current tasks task new
+    → find (λ t. t.number == task) tasks ≡ Some owner
     → owner.number ≡ task → Contains (refs s) new
 renewed s tasks task new owner are found own =
     let there : task_of s task ≡ Some (updated task new owner)
@@ -91,7 +97,8 @@ renewed s tasks task new owner are found own =
     is_same m n is = grind (arith, nat_tests)
 
 -- a task's credential is replaced
-pub replaces : (s : State) (answer : Answer) (left : List ℕ) (task slot : ℕ) (owner : Task) (old : Numbered) (c : Credential) (casts : List Broadcast) → IsSound s
+pub replaces : (s : State) (answer : Answer) (left : List ℕ) (task slot : ℕ) (owner : Task) (old : Numbered) (c : Credential) (casts : List Broadcast)
+    → IsSound s
     → task_of s task ≡ Some owner → numbered s.creds owner.current ≡ Some old
     → (left ≡ s.deferred) ⊎ (may_have_swept (length s.deferred) answer (length (left ++ old.number ∷ [])) ≡ true)
     → Keeps s (answer, record (replaced (with_left s left) task old.number c slot) { casts = casts })

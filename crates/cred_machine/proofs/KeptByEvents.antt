@@ -1,5 +1,6 @@
--- What is kept by an event, and what the events of lists let go of: nothing, unless there was a sweep.
-use Rattle.std.proofs.Common.{◌≡◌, ◌<◌, ◌⊎◌, inl, inr, not, ℕ, nat_lt, List, [], ◌∷◌, ◌++◌, length, slice_get, remove, Option, Some, None, true, false, cond, is_some, refl, ap, ◌∙◌, arith}
+-- What is kept by an event, and what the events of lists drop: nothing, unless there was a sweep.
+use Rattle.std.proofs.Common.{◌≡◌, ◌<◌, ◌⊎◌, inl, inr, not, ℕ, nat_lt, List, [], ◌∷◌, ◌++◌, length, slice_get, remove, Option, Some, None, true, false, cond}
+use Rattle.std.proofs.Common.{is_some, refl, ap, ◌∙◌, arith}
 use Rattle.std.specs.List.{All, Contains}
 use Rattle.std.specs.Option.{option_map_or}
 use Rattle.std.proofs.lemmas.Bool.Decides.{nat_tests}

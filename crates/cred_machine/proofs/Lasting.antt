@@ -1,5 +1,6 @@
--- What an event leaves referred to: all that was, but for what a sweep lets go of.
-use Rattle.std.proofs.Common.{◌≡◌, ◌≢◌, ◌==◌, not, ℕ, zero, suc, List, [], ◌∷◌, ◌++◌, map, slice_get, get_or, find, remove, Some, Bool, true, false, cond, refl, sym, ◌∙◌, subst}
+-- What an event leaves referred to: all that was, but for what a sweep drops.
+use Rattle.std.proofs.Common.{◌≡◌, ◌≢◌, ◌==◌, not, ℕ, zero, suc, List, [], ◌∷◌, ◌++◌, map, slice_get, get_or, find, remove, Some, Bool, true, false, cond, refl}
+use Rattle.std.proofs.Common.{sym, ◌∙◌, subst}
 use Rattle.std.specs.List.{All, AllPairs, filter}
 use Rattle.std.proofs.lemmas.Bool.{eqb-true}
 use Rattle.std.proofs.lemmas.List.Elements.{All-cons, All-head, All-nil, All-tail, All-weaker}

@@ -1,21 +1,23 @@
 -- What the events that create and end tasks lead to, by the parts of the state after them.
-use Rattle.std.proofs.Common.{◌≡◌, ℕ, ◌==◌, ◌||◌, nat_lt, not, is_some, Result, Bool, true, false, List, [], ◌∷◌, ◌++◌, length, find, Some, None, Ok, if◌then◌else◌, refl, sym, ap, ◌∙◌, subst}
+use Rattle.std.proofs.Common.{◌≡◌, ℕ, ◌==◌, ◌||◌, nat_lt, not, is_some, Result, Bool, true, false, List, [], ◌∷◌, ◌++◌, length, find, Some, None, Ok}
+use Rattle.std.proofs.Common.{if◌then◌else◌, refl, sym, ap, ◌∙◌, subst}
 use Rattle.cred_ids.specs.Limits.{PREPARED, TASKS}
 use Rattle.cred_event.specs.declared.answer.AbortCause.{AbortCause}
 use Rattle.cred_event.specs.declared.answer.Answer.{Answer}
 use Rattle.cred_event.specs.declared.answer.Answer.TheVariants.{Done, Kept, Sealed, TableFull}
 use Rattle.cred_record.specs.Credential.{Credential, first_credential}
-use Rattle.cred_model.specs.State.{State, Broadcast, Hold, Prepared, SealedCred, Task, Numbered, ProcessFlag, begun_by, cast_in, hold_of, numbered, prepared_of, task_of}
+use Rattle.cred_model.specs.State.{State, Broadcast, Hold, Prepared, SealedCred, Task, Numbered, ProcessFlag, begun_by, cast_in, hold_of, numbered, prepared_of}
+use Rattle.cred_model.specs.State.{task_of}
 use Rattle.cred_model.specs.Slots.{free, least_free, swept}
 use Rattle.cred_model.specs.Casts.{dropped, joined, not_busy, waits_no_more}
 use Rattle.cred_model.specs.Dumpable.{flags_begun, is_dumpable, with_process_flag, without_flag}
 use Rattle.cred_model.specs.Ends.{is_task, is_thread_of, left_by, survivors}
-use Rattle.cred_model.specs.Moves.{created, preparing, first_task, not_overridden, table_full}
+use Rattle.cred_model.specs.Moves.{created, preparing, first_task, not_overridden, table_full, at_abort}
 use Rattle.cred_model.specs.Step.{aborted, by_exit, by_fork, by_init, by_prepare, by_spawn, outcome}
 use Rattle.cred_model.proofs.Numbers.{owner_number}
 use Rattle.cred_model.proofs.Places.{none_by_test}
 use Rattle.cred_plain.specs.Tasks.{is_other_thread}
-use Rattle.cred_machine.specs.Room.{at_abort, swept_if}
+use Rattle.cred_machine.specs.Room.{swept_if}
 use Rattle.cred_machine.proofs.Events.{CanCreate, CanPrepare, exited, forked, init_tests, prepare_tests, spawned}
 use Rattle.cred_machine.proofs.Refusals.{neither, some_of}
 use Rattle.cred_machine.proofs.Rooms.{in_free, in_none, preparing_if}
@@ -33,7 +35,8 @@ same_parts s tasks casts late flags = rw (tasks, casts, late, flags) refl
 flags_unless : State → ℕ → Bool → List ProcessFlag
 flags_unless s process other = if other then s.dumpable else without_flag s.dumpable process
 
-pub exit_leads : (s : State) (task : ℕ) (owner : Task) (tasks : List Task) (casts : List Broadcast) (late numbers : List ℕ) (flags : List ProcessFlag) (other : Bool)
+pub exit_leads : (s : State) (task : ℕ) (owner : Task) (tasks : List Task) (casts : List Broadcast) (late numbers : List ℕ) (flags : List ProcessFlag)
+    (other : Bool)
     → task_of s task ≡ Some owner → not_busy (begun_by s task) ≡ Ok tt → not_overridden owner ≡ Ok tt
     → tasks ≡ survivors (is_task task) s.tasks → casts ≡ waits_no_more task s.casts → late ≡ s.deferred ++ numbers → numbers ≡ left_by (is_task task) s.tasks
     → flags ≡ (if other then s.dumpable else without_flag s.dumpable owner.process) → other ≡ is_some (find (is_other_thread owner.process task) s.tasks)
@@ -59,12 +62,15 @@ process_ended s process tasks casts late numbers flags sweep ts cs fs ns left ca
     ∙ ap (λ (p : ℕ). aborted (record cast { process = p }) (if sweep then record s { deferred = [] } else s)) (sym same)
     ∙ ap (aborted cast) (sym is)
   where
-    at : (b : Bool) → with_parts s (survivors (is_thread_of process) s.tasks) (dropped process s.casts) ((if b then [] else s.deferred) ++ left_by (is_thread_of process) s.tasks) (without_flag s.dumpable process)
+    at : (b : Bool)
+        → with_parts s (survivors (is_thread_of process) s.tasks) (dropped process s.casts)
+        ((if b then [] else s.deferred) ++ left_by (is_thread_of process) s.tasks) (without_flag s.dumpable process)
         ≡ aborted (record cast { process = process }) (if b then record s { deferred = [] } else s)
     at true = refl
     at false = refl
 
-pub spawn_leads : (s : State) (task child : ℕ) (owner : Task) (parent : Numbered) (tasks : List Task) (casts : List Broadcast) → CanCreate s task child owner parent
+pub spawn_leads : (s : State) (task child : ℕ) (owner : Task) (parent : Numbered) (tasks : List Task) (casts : List Broadcast)
+    → CanCreate s task child owner parent
     → tasks ≡ s.tasks ++ first_task child owner.process parent.number ∷ [] → casts ≡ joined task child s.casts
     → outcome s (by_spawn s task child) ≡ (Sealed parent.number parent.slot, record s { tasks = tasks; casts = casts })
 unfolding with_parts
@@ -128,7 +134,8 @@ can_prepare s label task hold held whose looked among alive used is lives same i
       few = few;
     }
 
-pub init_leads : (s : State) (task process user group ns root number slot : ℕ) (sweep : Bool) (c : Credential) (tasks : List Task) (late : List ℕ) (flags : List ProcessFlag) (old creds : List SealedCred)
+pub init_leads : (s : State) (task process user group ns root number slot : ℕ) (sweep : Bool) (c : Credential) (tasks : List Task) (late : List ℕ)
+    (flags : List ProcessFlag) (old creds : List SealedCred)
     → not_busy (cast_in s process) ≡ Ok tt → task_of s task ≡ None → nat_lt (length s.tasks) TASKS ≡ true
     → free s ≡ Some slot → sweep ≡ not (is_some (least_free s)) → number ≡ length old → old ≡ s.creds → c ≡ first_credential user group ns root
     → tasks ≡ s.tasks ++ first_task task process number ∷ [] → creds ≡ old ++ record { cred = c; slot = slot } ∷ []
@@ -137,13 +144,21 @@ pub init_leads : (s : State) (task process user group ns root number slot : ℕ)
 init_leads s task process user group ns root number slot sweep c tasks late flags old creds idle new few found is many same first ts cs ls fs =
     init_tests s task process user group ns root idle new few
     ∙ in_free s table_full
-    (λ r at. (Sealed (length r.creds) at, record (created r (first_task task process (length r.creds)) (first_credential user group ns root) at) { dumpable = flags_begun r process })) sweep slot found is
+    (λ r at. (
+      Sealed (length r.creds) at,
+      record (created r (first_task task process (length r.creds)) (first_credential user group ns root) at) { dumpable = flags_begun r process },
+    ))
+    sweep slot found is
     ∙ done sweep
     ∙ rw (ts, cs, ls, fs, many, same, first) refl
   where
     done : (b : Bool)
-        → ◌≡◌ {A = Answer × State}
-        (Sealed (length (swept_if b s).creds) slot, record (created (swept_if b s) (first_task task process (length (swept_if b s).creds)) (first_credential user group ns root) slot) { dumpable = flags_begun (swept_if b s) process }) (
+        → ◌≡◌ {A = Answer × State} (
+          Sealed (length (swept_if b s).creds) slot,
+          record (created (swept_if b s) (first_task task process (length (swept_if b s).creds)) (first_credential user group ns root) slot) {
+            dumpable = flags_begun (swept_if b s) process;
+          },
+        ) (
           Sealed (length s.creds) slot,
           record s {
             tasks = s.tasks ++ first_task task process (length s.creds) ∷ [];

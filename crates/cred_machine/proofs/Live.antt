@@ -1,5 +1,6 @@
 -- Which slots are live after an id call and after a thread's step, by those that were before it.
-use Rattle.std.proofs.Common.{◌≡◌, ◌≢◌, ℕ, zero, suc, ◌-◌, ◌<◌, ◌==◌, ◌||◌, not, Bool, true, false, cond, if◌then◌else◌, MatchBool, List, [], ◌∷◌, ◌++◌, find, length, map, is_some, slice_get, Option, Some, None, Result, Ok, Err, ok_or, refl, sym, ap, ◌∙◌, subst, arith}
+use Rattle.std.proofs.Common.{◌≡◌, ◌≢◌, ℕ, zero, suc, ◌-◌, ◌<◌, ◌==◌, ◌||◌, not, Bool, true, false, cond, if◌then◌else◌, MatchBool, List, [], ◌∷◌, ◌++◌, find}
+use Rattle.std.proofs.Common.{length, map, is_some, slice_get, Option, Some, None, Result, Ok, Err, ok_or, refl, sym, ap, ◌∙◌, subst, arith}
 use Rattle.std.specs.List.{All, AllPairs, concat, flat_map, list_any}
 use Rattle.std.specs.Option.{IfSome, option_map, option_map_or}
 use Rattle.std.proofs.lemmas.Bool.Decides.{nat_tests}
@@ -16,7 +17,7 @@ use Rattle.cred_model.specs.Dumpable.{differs, renewed}
 use Rattle.cred_model.specs.State.{State, SealedCred, Prepared, ProcessFlag, Task, Broadcast, Numbered, cast_of, numbered, task_of}
 use Rattle.cred_model.specs.Change.{by_rule}
 use Rattle.cred_model.specs.Like.{IsLike}
-use Rattle.cred_model.specs.Moves.{◌>>=◌, replaced, updated, with_current}
+use Rattle.cred_model.specs.Moves.{replaced, updated, with_current}
 use Rattle.cred_model.specs.Slots.{free, is_kept, is_live, least_free, refs, stands_in}
 use Rattle.cred_model.specs.Step.{aborted, by_act, follow, outcome}
 use Rattle.cred_model.proofs.Rising.{AllPairs-head, AllPairs-tail}
@@ -27,6 +28,7 @@ use Rattle.cred_machine.specs.Room.{IsCurrentOf, swept_if}
 use Rattle.cred_machine.proofs.Free.{free_now}
 use Rattle.cred_plain.proofs.Places.{all_left}
 use Rattle.cred_machine.proofs.Rooms.{in_free}
+use Rattle.cred_ids.specs.Tests.{◌>>=◌}
 
 -- ---- one credential more
 
@@ -93,12 +95,14 @@ module _ (task new : ℕ) (p : ℕ → Bool) where
           let own : t.number ≡ task = grind (arith, nat_tests) in
           let others = AllPairs-head (λ (x y : Task). x.number ≢ y.number) t ts apart in
           let rest : with_current ts task new ≡ ts
-          = all_left (λ (u : Task). u.number) (updated task new) task others_left ts (λ k e lt. let differs = others k e lt in λ is'. differs (own ∙ sym is')) in
+          = all_left (λ (u : Task). u.number) (updated task new) task others_left ts
+          (λ k e lt. let differs = others k e lt in λ is'. differs (own ∙ sym is')) in
           ap (λ us. (p new || list_any p (map (λ (u : Task). u.current) us)) || p owner.current) rest
           ∙ ap (λ (u : Task). (p new || list_any p (map (λ v. v.current) ts)) || p u.current) (sym same)
           ∙ swap_head (p t.current) (list_any p (map (λ u. u.current) ts)) (p new)
       at false test is later =
-          keep_head (p t.current) (list_any p (map (λ u. u.current) ts)) (list_any p (map (λ u. u.current) (with_current ts task new))) (p owner.current) (p new)
+          keep_head (p t.current) (list_any p (map (λ u. u.current) ts)) (list_any p (map (λ u. u.current) (with_current ts task new))) (p owner.current)
+          (p new)
           (later is)
 
 -- ---- a credential is replaced
@@ -203,7 +207,8 @@ followed : (s after : State) (cast : Broadcast) (t : ℕ) (owner : Task) (old : 
     → is_some (least_free s) ≡ true → follow s cast t owner old made ≡ (Acted task cred slot left, after)
     → (c : Credential) × (t ≡ task) × (after ≡ stepped s t owner old c slot)
 unfolding stepped
-followed s after cast t owner old task cred slot left (Err e) some is = let never : Aborted t Perm ≡ Acted task cred slot left = ap (λ (g : Answer × State). g.0) is in cc
+followed s after cast t owner old task cred slot left (Err e) some is =
+    let never : Aborted t Perm ≡ Acted task cred slot left = ap (λ (g : Answer × State). g.0) is in cc
 followed s after cast t owner old task cred slot left (Ok c) some is = by (least_free s) refl
   where
     does : State → ℕ → Answer × State
@@ -243,8 +248,14 @@ acted s after number task cred slot left some is =
       lives = subst (λ (t : ℕ). task_of s t ≡ Some c.0) e.1 c.1;
       leads =
           e.2
-          ∙ ap (λ (n : ℕ). record (replaced s b.0 n e.0 slot) { casts = waits_no_more b.0 s.casts; dumpable = renewed s.dumpable c.0.process (differs d.0.cred e.0) }) own
-          ∙ ap (λ (t : ℕ). record (replaced s t c.0.current e.0 slot) { casts = waits_no_more b.0 s.casts; dumpable = renewed s.dumpable c.0.process (differs d.0.cred e.0) }) e.1;
+          ∙ ap
+          (λ (n : ℕ).
+          record (replaced s b.0 n e.0 slot) { casts = waits_no_more b.0 s.casts; dumpable = renewed s.dumpable c.0.process (differs d.0.cred e.0) })
+          own
+          ∙ ap
+          (λ (t : ℕ).
+          record (replaced s t c.0.current e.0 slot) { casts = waits_no_more b.0 s.casts; dumpable = renewed s.dumpable c.0.process (differs d.0.cred e.0) })
+          e.1;
     }
 
 -- what is live after a step that took its slot without a sweep

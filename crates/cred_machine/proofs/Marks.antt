@@ -2,8 +2,7 @@
 use Rattle.std.proofs.Common.{◌≡◌, ℕ, zero, suc, ◌+◌, ◌<◌, ◌≤◌, Bool, true, false, not, List, get_or, find, Some, None, refl, ap, arith, inl, inr, replicate}
 use Rattle.std.specs.List.{range_with_len}
 use Rattle.std.proofs.lemmas.Bool.{cases_lt}
-use Rattle.cred_ids.specs.Limits.{SLOTS}
-use Rattle.cred_model.specs.Slots.{slots}
+use Rattle.cred_ids.specs.Limits.{SLOTS, slots}
 
 find_first : (test : ℕ → Bool) (a n s : ℕ) → a ≤ s → s < a + n → test s ≡ true → ((k : ℕ) → a ≤ k → k < s → test k ≡ false)
     → find test (range_with_len a n) ≡ Some s

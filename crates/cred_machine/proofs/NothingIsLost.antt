@@ -1,5 +1,6 @@
--- No event lets go of what is referred to, and only a sweep of what was given up.
-use Rattle.std.proofs.Common.{◌≡◌, ◌==◌, ◌-◌, ◌⊎◌, inl, inr, ℕ, List, [], ◌∷◌, ◌++◌, length, nat_lt, slice_get, slice_set, find, position, Some, None, true, Result, Ok, Err, refl, arith}
+-- No event drops what is referred to, and only a sweep drops what was given up.
+use Rattle.std.proofs.Common.{◌≡◌, ◌==◌, ◌-◌, ◌⊎◌, inl, inr, ℕ, List, [], ◌∷◌, ◌++◌, length, nat_lt, slice_get, slice_set, find, position, Some, None, true}
+use Rattle.std.proofs.Common.{Result, Ok, Err, refl, arith}
 use Rattle.std.specs.Option.{option_and_then}
 use Rattle.cred_ids.specs.Limits.{TASKS, OPEN_FILES, PREPARED, DEPTH}
 use Rattle.cred_record.specs.Credential.{Credential, first_credential}
@@ -14,25 +15,29 @@ use Rattle.cred_event.specs.declared.answer.Answer.{Answer}
 use Rattle.cred_event.specs.declared.answer.Answer.TheVariants.{Done, Sealed, Kept, TableFull, Began, Acted, Aborted}
 use Rattle.cred_event.specs.declared.event.Change.{Change}
 use Rattle.cred_event.specs.declared.event.Event.{Event}
-use Rattle.cred_event.specs.declared.event.Event.TheVariants.{Init, Take, TakeFile, Release, Ask, Signal, Prepare, Alter, Commit, Abort, Override, Revert, Begin, Act, OpenFile, CloseFile, Spawn, Fork, Exit, Sweep, Dumpable, Dumped, Ptrace, Chown, Chmod, SetAttr, Stat, Raw}
+use Rattle.cred_event.specs.declared.event.Event.TheVariants.{Init, Take, TakeFile, Release, Ask, Signal, Prepare, Alter, Commit, Abort, Override, Revert}
+use Rattle.cred_event.specs.declared.event.Event.TheVariants.{Begin, Act, OpenFile, CloseFile, Spawn, Fork, Exit, Sweep, Dumpable, Dumped, Ptrace, Chown, Chmod}
+use Rattle.cred_event.specs.declared.event.Event.TheVariants.{SetAttr, Stat, Raw}
 use Rattle.cred_event.specs.declared.event.Mode.{Mode}
 use Rattle.cred_model.specs.Answers.{checked}
 use Rattle.cred_model.specs.Casts.{dropped, joined, others_of, waits_no_more, with_cast}
 use Rattle.cred_model.specs.Change.{by_change, by_rule}
-use Rattle.cred_model.specs.Changing.{changed_by}
+use Rattle.cred_model.specs.FileChanges.{changed_by}
 use Rattle.cred_model.specs.Dumpable.{differs, flag_of_value, flags_begun, flags_left, is_dumpable, renewed, set_flag, with_process_flag, without_flag}
 use Rattle.cred_model.specs.Ends.{ended, is_task, is_thread_of}
 use Rattle.cred_model.specs.Moves.{created, first_task, preparing, replaced, table_full}
 use Rattle.cred_model.specs.Named.{change_files}
 use Rattle.cred_model.specs.Ptrace.{may_trace}
 use Rattle.cred_model.specs.Script.{Script, chain_of, reaches, root_of}
-use Rattle.cred_model.specs.State.{State, Task, Broadcast, Prepared, Numbered, begun_by, cast_in, cast_of, credential_of, held_by, hold_of, info_of, numbered, open_of, opener_of, prepared_of, task_of}
+use Rattle.cred_model.specs.State.{State, Task, Broadcast, Prepared, Numbered, begun_by, cast_in, cast_of, credential_of, held_by, hold_of, info_of, numbered}
+use Rattle.cred_model.specs.State.{open_of, opener_of, prepared_of, task_of}
 use Rattle.cred_model.specs.Step.{aborted, by_file, by_raw, by_stat, follow, for_access, for_task, outcome, step}
 use Rattle.cred_sound.specs.Sound.{IsSound}
 use Rattle.cred_sound.proofs.Parts.{with_left}
 use Rattle.cred_sound.proofs.Tests.{outcome_has, if_some, if_none, if_either, if_fewer, if_passed, if_idle, if_own, if_last, if_rule, if_file_rule, if_ok}
 use Rattle.cred_machine.specs.Kept.{as_begun}
-use Rattle.cred_machine.proofs.KeptByEvents.{IsLeft, Keeps, alters, closes, gives_up_prepared, if_left, if_left_one, in_slots, less, opens, prepares, refused, releases, still, takes_hold, with_flags, with_infos}
+use Rattle.cred_machine.proofs.KeptByEvents.{IsLeft, Keeps, alters, closes, gives_up_prepared, if_left, if_left_one, in_slots, less, opens, prepares, refused}
+use Rattle.cred_machine.proofs.KeptByEvents.{releases, still, takes_hold, with_flags, with_infos}
 use Rattle.cred_machine.proofs.KeepingTasks.{creates, ends_some, lends, lends_prepared, replaces, reverts, shares, tries_commit}
 
 -- where no slot is free
@@ -47,7 +52,8 @@ init_keeps script s line task process user group ns =
     (if_idle Q (cast_in s process) _
     (λ idle. if_none Q (task_of s task) _ _
     (λ new. if_fewer Q (length s.tasks) TASKS _ _
-    (in_slots Q s table_full (λ s slot. (Sealed (length s.creds) slot, record (created s (first_task task process (length s.creds)) c slot) { dumpable = flags_begun s process }))
+    (in_slots Q s table_full
+    (λ s slot. (Sealed (length s.creds) slot, record (created s (first_task task process (length s.creds)) c slot) { dumpable = flags_begun s process }))
     (full s)
     (λ left slot is.
     let t = created (with_left s left) (first_task task process (length s.creds)) c slot in
@@ -169,7 +175,10 @@ begin_keeps script s line task call sound =
     let others = others_of owner s.tasks in
     let cast : Broadcast = record { number = line; process = owner.process; caller = task; call = call; waiting = others } in
     in_slots Q s table_full
-    (λ s slot. (Began (length s.creds) slot (length others), record (replaced s task old.number new slot) { casts = with_cast s.casts cast; dumpable = renewed s.dumpable owner.process (differs old.cred new) }))
+    (λ s slot. (
+      Began (length s.creds) slot (length others),
+      record (replaced s task old.number new slot) { casts = with_cast s.casts cast; dumpable = renewed s.dumpable owner.process (differs old.cred new) },
+    ))
     (full s)
     (λ left slot is.
     let answer = Began (length s.creds) slot (length others) in
@@ -186,7 +195,10 @@ follow_keeps s cast task owner old (Err refusal) sound found at =
 follow_keeps s cast task owner old (Ok new) sound found at =
     let left_waiting = length cast.waiting - 1 in
     in_slots (Keeps s) s (λ now. (Aborted task cause.Full, aborted cast now))
-    (λ now slot. (Acted task (length now.creds) slot left_waiting, record (replaced now task old.number new slot) { casts = waits_no_more task now.casts; dumpable = renewed now.dumpable owner.process (differs old.cred new) }))
+    (λ now slot. (
+      Acted task (length now.creds) slot left_waiting,
+      record (replaced now task old.number new slot) { casts = waits_no_more task now.casts; dumpable = renewed now.dumpable owner.process (differs old.cred new) },
+    ))
     (λ left is.
     let answer = Aborted task cause.Full in
     let t = record (ended (is_thread_of cast.process) (with_left s left)) { casts = dropped cast.process s.casts } in
@@ -299,7 +311,8 @@ raw_keeps s task call sound =
     (if_rule Q (set_id old.cred call) _
     (λ new ruled.
     in_slots Q s table_full
-    (λ s slot. (Sealed (length s.creds) slot, record (replaced s task old.number new slot) { dumpable = renewed s.dumpable owner.process (differs old.cred new) }))
+    (λ s slot.
+    (Sealed (length s.creds) slot, record (replaced s task old.number new slot) { dumpable = renewed s.dumpable owner.process (differs old.cred new) }))
     (full s)
     (λ left slot is.
     let answer = Began (length s.creds) slot 0 in

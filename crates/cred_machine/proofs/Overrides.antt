@@ -1,5 +1,6 @@
 -- A task acts with another credential than its current one, and goes back.
-use Rattle.std.proofs.Common.{◌≡◌, ◌≢◌, ◌<◌, ◌≤◌, ◌==◌, ℕ, nat_lt, true, false, List, [], ◌∷◌, ◌++◌, find, length, position, remove, slice_get, Option, Some, None, refl, sym, ap, ◌∙◌, subst, arith}
+use Rattle.std.proofs.Common.{◌≡◌, ◌≢◌, ◌<◌, ◌≤◌, ◌==◌, ℕ, nat_lt, true, false, List, [], ◌∷◌, ◌++◌, find, length, position, remove, slice_get, Option, Some}
+use Rattle.std.proofs.Common.{None, refl, sym, ap, ◌∙◌, subst, arith}
 use Rattle.std.specs.List.{AllPairs}
 use Rattle.std.specs.Option.{IfSome}
 use Rattle.std.proofs.lemmas.Bool.Decides.{nat_tests}
@@ -62,7 +63,8 @@ module _ (s : State) (task label : ℕ) (owner : Task) (lives : task_of s task �
           → outcome s (by_override s task label) ≡ (Sealed (length s.creds) p.slot, overridden s place p owner last.cred)
       access_tests few = rw (lives, unheld, at, there, asked (Some last) asks, few) refl
 
-      pub access_lends : (number slot base : ℕ) (c : Credential) (tasks : List Task) (old creds : List SealedCred) (before late : List ℕ) (prepared : List Prepared)
+      pub access_lends : (number slot base : ℕ) (c : Credential) (tasks : List Task) (old creds : List SealedCred) (before late : List ℕ)
+          (prepared : List Prepared)
           → nat_lt (length owner.overrides) DEPTH ≡ true → old ≡ s.creds → number ≡ length old → slot ≡ p.slot → base ≡ p.base → c ≡ last.cred
           → tasks ≡ with_overrides s.tasks task (number ∷ owner.overrides) → creds ≡ old ++ record { cred = c; slot = slot } ∷ []
           → before ≡ s.deferred → late ≡ before ++ base ∷ [] → prepared ≡ remove s.prepared place
@@ -75,4 +77,10 @@ module _ (s : State) (task label : ℕ) (owner : Task) (lives : task_of s task �
         where
           with_lent : List Task → State
           with_lent ts =
-              record s { tasks = ts; creds = s.creds ++ record { cred = last.cred; slot = p.slot } ∷ []; deferred = s.deferred ++ p.base ∷ []; prepared = remove s.prepared place }
+              record s {
+                tasks = ts;
+                creds = s.creds ++ record { cred = last.cred; slot = p.slot } ∷ [];
+                deferred = s.deferred ++ p.base ∷ [];
+                prepared = remove
+                    s.prepared place;
+              }

@@ -86,10 +86,12 @@ module _ (s : State) (from hold to target : ℕ) (sender receiver : Task) (sends
   module _ (own other : Numbered) (has : held_by s hold ≡ Some own) (there : held_by s target ≡ Some other) (may : Bool)
       (is : may ≡ may_signal own.cred other.cred (sender.process == receiver.process)) where
     pub signal_may : may ≡ true → outcome s (by_signal s from hold to target) ≡ (Done, s)
-    signal_may so = let test : may_signal own.cred other.cred (sender.process == receiver.process) ≡ true = sym is ∙ so in rw (sends, receives, has, there, test) refl
+    signal_may so =
+        let test : may_signal own.cred other.cred (sender.process == receiver.process) ≡ true = sym is ∙ so in rw (sends, receives, has, there, test) refl
 
     pub signal_may_not : may ≡ false → outcome s (by_signal s from hold to target) ≡ (Eperm, s)
-    signal_may_not not_so = let test : may_signal own.cred other.cred (sender.process == receiver.process) ≡ false = sym is ∙ not_so in rw (sends, receives, has, there, test) refl
+    signal_may_not not_so =
+        let test : may_signal own.cred other.cred (sender.process == receiver.process) ≡ false = sym is ∙ not_so in rw (sends, receives, has, there, test) refl
 
 -- a task that would look into another
 module _ (script : Script) (s : State) (from hold to target : ℕ) (mode : Mode) (sender receiver : Task)

@@ -3,7 +3,7 @@ use Rattle.std.proofs.Common.{◌≡◌, ℕ, Bool, List, find, get_or, position
 use Rattle.cred_model.specs.State.{State, Task, Broadcast, Prepared}
 use Rattle.cred_plain.specs.declared.casts.Cast.TheInside as cast
 use Rattle.cred_plain.specs.declared.labels.Prepared.TheInside as prepared
-use Rattle.cred_plain.specs.declared.task.Task.TheInside as task
+use Rattle.cred_plain.specs.declared.one_task.Task.TheInside as task
 use Rattle.cred_plain.proofs.Places.{at_place}
 use Rattle.cred_machine.specs.declared.state.State.TheInside as state
 

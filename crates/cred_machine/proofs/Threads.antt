@@ -2,12 +2,12 @@
 use Rattle.std.proofs.Common.{◌≡◌, ◌==◌, ℕ, ◌<◌, List, get_or, Some, true, false, refl, arith}
 use Rattle.std.specs.List.{AllPairs}
 use Rattle.cred_model.specs.State.{State, Task, Broadcast, cast_of}
-use Rattle.cred_model.specs.Casts.{waits_in}
+use Rattle.cred_model.specs.Casts.{waits_in, SharesNone}
 use Rattle.cred_model.proofs.Lists.{found}
 use Rattle.cred_sound.specs.Casts.{IsThread, IsUnderWay}
 use Rattle.cred_sound.specs.Sound.{IsSound}
 use Rattle.cred_sound.proofs.Threads.{one_process, waits_at}
-use Rattle.cred_plain.specs.Casts.{AreWaitedFor, SharesNone}
+use Rattle.cred_plain.specs.Casts.{AreWaitedFor}
 
 -- who waits in a broadcast is a thread of its process
 thread_of : (tasks : List Task) (cast : Broadcast) (task : ℕ) → IsUnderWay tasks cast → waits_in task cast ≡ true

@@ -14,7 +14,7 @@ use Rattle.cred_event.specs.declared.event.Event.TheVariants.{Chown, Chmod, SetA
 use Rattle.cred_event.specs.declared.answer.Answer.TheVariants.{Done, Told, Eperm, Einval, NoHold}
 use Rattle.cred_event.specs.declared.answer.Told.TheVariants as told
 use Rattle.cred_event.specs.declared.answer.Answer.{Answer}
-use Rattle.cred_model.specs.Changing.{changed_by, event_changes}
+use Rattle.cred_model.specs.FileChanges.{changed_by, event_changes}
 use Rattle.cred_model.specs.Script.{Script}
 use Rattle.cred_model.specs.State.{State, Numbered, held_by}
 use Rattle.cred_model.specs.Step.{by_file, by_stat, done, outcome}

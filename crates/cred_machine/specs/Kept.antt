@@ -17,9 +17,9 @@ KeepsReferred s =
     (n : ℕ) → is_among (refs s) n ≡ false
     → IfSome (slice_get s.creds n) (λ sealed. sealed.cred ≡ gone)
 
--- Whether a sweep may have let go of something, with an event that answered so: then fewer numbers
+-- Whether a sweep may have dropped something, with an event that answered so: then fewer numbers
 -- are given up after it than were before it and were by it. A call gives up one number, the thread
--- that couldn't follow for want of a slot has swept, and no other answer needs any to be given up.
+-- that couldn't follow since no slot was free has swept, and no other answer needs any given up.
 abbrev pub may_have_swept : ℕ → Answer → ℕ → Bool
 may_have_swept before (Began cred slot left) after = not (nat_lt before after)
 may_have_swept before (Acted task cred slot left) after = not (nat_lt before after)
@@ -32,7 +32,7 @@ abbrev pub as_begun : Answer → Answer
 as_begun (Sealed cred slot) = Began cred slot 0
 as_begun answer = answer
 
--- whether the event may have let go of something
-abbrev pub may_let_go : Event → ℕ → Answer → ℕ → Bool
-may_let_go (Raw task call) before answer after = may_have_swept before (as_begun answer) after
-may_let_go event before answer after = may_have_swept before answer after
+-- whether the event may have dropped something
+abbrev pub may_have_dropped : Event → ℕ → Answer → ℕ → Bool
+may_have_dropped (Raw task call) before answer after = may_have_swept before (as_begun answer) after
+may_have_dropped event before answer after = may_have_swept before answer after

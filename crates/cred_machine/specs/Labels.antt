@@ -1,23 +1,8 @@
 -- Labels that are committed, or override their task's credential.
-use Rattle.std.specs.Prelude.{◌≡◌, ℕ, List, slice_get, Some}
-use Rattle.cred_record.specs.Credential.{first_credential}
+use Rattle.std.specs.Prelude.{◌≡◌, ℕ, slice_get, Some}
 use Rattle.cred_event.specs.declared.answer.Answer.{Answer}
-use Rattle.cred_event.specs.declared.event.Change.{Change}
-use Rattle.cred_event.specs.declared.event.Change.TheVariants.{Exec}
-use Rattle.cred_model.specs.State.{State, Task, Prepared, Changed, Broadcast, Numbered, task_of}
-use Rattle.cred_model.specs.Casts.{dropped}
+use Rattle.cred_model.specs.State.{State, Task, Prepared, Changed, task_of}
 use Rattle.cred_model.specs.Step.{try_commit}
-
--- a sealed credential by its number and its slot alone, where it doesn't matter which one it is
-abbrev pub numbered_in : ℕ → ℕ → Numbered
-numbered_in number slot =
-    record { number = number; cred = first_credential 0 0 0 0; slot = slot }
-
--- the broadcasts that a commit of this change leaves open: an execve drops that of its process
--- (execve(2))
-abbrev pub casts_left : Change → ℕ → List Broadcast → List Broadcast
-casts_left (Exec file) process casts = dropped process casts
-casts_left change process casts = casts
 
 -- The label at this place prepares a credential for a task that is alive, and was changed last so.
 pub record IsChanged

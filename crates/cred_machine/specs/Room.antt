@@ -2,8 +2,6 @@
 use Rattle.std.specs.Prelude.{◌≡◌, ℕ, Bool, [], ◌∷◌, ◌++◌, length, if◌then◌else◌, Some}
 use Rattle.std.specs.Option.{option_map}
 use Rattle.cred_record.specs.Credential.{Credential}
-use Rattle.cred_event.specs.declared.answer.AbortCause.{AbortCause}
-use Rattle.cred_event.specs.declared.answer.AbortCause.TheVariants.{Perm, Full}
 use Rattle.cred_event.specs.declared.answer.Answer.{Answer}
 use Rattle.cred_event.specs.declared.answer.Answer.TheVariants.{Began, Sealed}
 use Rattle.cred_model.specs.State.{State, Broadcast, task_of}
@@ -15,11 +13,6 @@ use Rattle.cred_model.specs.Moves.{replaced, sealed}
 -- the state after a sweep, if there was one
 abbrev pub swept_if : Bool → State → State
 swept_if sweep s = if sweep then swept s else s
-
--- the state that a task which couldn't follow a call left: a sweep is made before a want of a slot
-abbrev pub at_abort : AbortCause → State → State
-at_abort Perm s = s
-at_abort Full s = swept s
 
 -- the credential of this number is the task's current one
 abbrev pub IsCurrentOf : State → ℕ → ℕ → Type 0

@@ -6,7 +6,8 @@ ghost use Rattle.cred_model.specs.Named.{AreModes, IsEventOf, event_modes};
 ghost use Rattle.cred_model.specs.State.{opening};
 ghost use Rattle.cred_model.specs.Step.{by_act, done};
 ghost use Rattle.cred_sound.specs.Sound.{IsSound};
-ghost use Rattle.cred_machine.specs.Kept.{KeepsReferred, as_begun, may_have_swept, may_let_go};
+ghost use Rattle.cred_machine.specs.Kept.{KeepsReferred, as_begun, may_have_swept};
+ghost use Rattle.cred_machine.specs.Kept.{may_have_dropped};
 ghost use Rattle.cred_machine.specs.Slots.{AreLive, TakesSlot, takes_slot};
 
 use crate::slots::{Marks, live_slots};
@@ -73,7 +74,7 @@ impl CachedState {
         let before = self.state.given_up();
         let answer = self.state.make(&mut self.live, script, line, event)?;
         keep_after_call(&mut self.live, event);
-        let swept = may_let_go(event, before, &answer, self.state.given_up());
+        let swept = may_have_dropped(event, before, &answer, self.state.given_up());
         self.state.forget_if(swept);
         Ok(answer)
     }
@@ -197,10 +198,10 @@ fn live_after(live: Marks, answer: &Answer, swept: bool) -> Option<Marks>
     }
 }
 
-/// Whether the event may have let go of something, where so many references had been given up
+/// Whether the event may have dropped something, where so many references had been given up
 /// before it, and so many are after it.
-fn may_let_go(event: &Event, before: usize, answer: &Answer, after: usize) -> bool
-    ensures { result ≡ may_let_go event.now before answer.now after }
+fn may_have_dropped(event: &Event, before: usize, answer: &Answer, after: usize) -> bool
+    ensures { result ≡ may_have_dropped event.now before answer.now after }
 {
     match event {
         Event::Raw { .. } => raw_may_have_swept(before, answer, after),
@@ -219,7 +220,7 @@ fn raw_may_have_swept(before: usize, answer: &Answer, after: usize) -> bool
     }
 }
 
-/// Whether a sweep may have let go of something, where so many references had been given up before
+/// Whether a sweep may have dropped something, where so many references had been given up before
 /// an event that answered so, and so many are after it.
 fn may_have_swept(before: usize, answer: &Answer, after: usize) -> bool
     ensures { result ≡ may_have_swept before answer.now after }

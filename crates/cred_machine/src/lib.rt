@@ -1,6 +1,8 @@
-//! The plain value machine: a second body of the definition of a step. Its tasks, open files, holds
-//! and prepared labels have the numbers of credentials, and who refers to a number is found by
-//! looking through all that refers.
+//! The second body of a step, on which `audit` runs: plain values in lists, and no count of
+//! references.
+//!
+//! Its tasks, open files, holds and prepared labels have the numbers of credentials, and who refers
+//! to a number is found by looking through all that refers.
 #![tactic(auto)]
 
 mod cached;

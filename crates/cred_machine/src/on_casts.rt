@@ -7,11 +7,11 @@ ghost use Rattle.cred_setid.specs.Becomes.{IsAnew};
 ghost use Rattle.cred_model.specs.State.{Broadcast};
 ghost use Rattle.cred_model.specs.Like.{Gives};
 ghost use Rattle.cred_model.specs.Slots.{free, least_free};
-ghost use Rattle.cred_model.specs.Moves.{in_slot, replaced, table_full};
+ghost use Rattle.cred_model.specs.Moves.{in_slot, replaced, table_full, at_abort};
 ghost use Rattle.cred_model.specs.Step.{aborted, by_act, by_begin};
 ghost use Rattle.cred_sound.specs.Sound.{IsSound};
 ghost use Rattle.cred_machine.specs.Slots.{AreLive};
-ghost use Rattle.cred_machine.specs.Room.{IsCurrentOf, at_abort, begun, sealed_for, swept_if};
+ghost use Rattle.cred_machine.specs.Room.{IsCurrentOf, begun, sealed_for, swept_if};
 
 use crate::slots::{Marks, Room, defer_left, live_slots, make_room};
 use crate::state::{State, overridden};

@@ -1,6 +1,6 @@
 //! The events that change a file, and the question how one stands.
 ghost use Rattle.std.specs.Prelude.{◌≡◌, true, IfOk, OnErr};
-ghost use Rattle.cred_model.specs.Changing.{changed_by, event_changes};
+ghost use Rattle.cred_model.specs.FileChanges.{changed_by, event_changes};
 ghost use Rattle.cred_model.specs.Like.{Gives};
 ghost use Rattle.cred_model.specs.Named.{AreModes, event_modes};
 ghost use Rattle.cred_model.specs.Step.{by_file, by_stat};

@@ -3,24 +3,25 @@ ghost use Rattle.std.specs.Prelude.{◌≡◌, ◌<◌, length, slice_get, IfOk,
 ghost use Rattle.cred_model.specs.Like.{Gives};
 ghost use Rattle.cred_model.specs.Step.{by_abort, by_alter, by_ask, by_commit, by_prepare};
 ghost use Rattle.cred_model.specs.Step.{by_release, by_signal, by_take, take_hold};
-ghost use Rattle.cred_model.specs.Step as model;
 ghost use Rattle.cred_model.specs.Moves.{given_up};
+ghost use Rattle.cred_model.specs.Casts.{casts_left};
+ghost use Rattle.cred_model.specs.State.{numbered_in};
 ghost use Rattle.cred_sound.specs.Sound.{IsSound};
-ghost use Rattle.cred_machine.specs.Labels.{numbered_in, casts_left, CanCommit, Commits};
+ghost use Rattle.cred_machine.specs.Labels.{CanCommit, Commits};
 ghost use Rattle.cred_machine.specs.Labels.{IsOnCurrent};
 ghost use Rattle.cred_plain.specs.Tasks.{ending_of};
 
 use crate::slots::{Room, make_room, sweep_if};
 use crate::state::{State, differs_from, overridden};
 use cred_access::may_signal;
-use cred_decide::{Made, change as change_of, reply};
+use cred_decide::{Made, change as change_of, committed_by, reply};
 use cred_declared::{asked_file, chain_of, executed_file};
 use cred_event::{Answer, Change, Counted, Named, Query, Side};
 use cred_ids::{NoMemory, limits};
 use cred_plain::casts::{begun_by, drop_cast};
 use cred_plain::labels::{change_at, hold_of, hold_place, prepared_of, prepared_place};
 use cred_plain::{Cast, Changed, Ending, Hold, Numbered, Prepared};
-use cred_record::{Gains, copy};
+use cred_record::copy;
 use cred_script::Script;
 
 impl State {
@@ -312,21 +313,5 @@ fn drop_with(casts: &mut Vec<Cast>, change: Change, process: u32)
 {
     if let Change::Exec { .. } = change {
         drop_cast(casts, process);
-    }
-}
-
-/// What a commit answers, by what the change was, and what the new credential gains: that was
-/// sealed under this number in this slot, and so many tasks ended.
-fn committed_by(change: Change, gains: &Gains, cred: u64, slot: u32, ended: u32) -> Answer
-    ensures { result ≡ model.committed_by change gains.now cred slot ended }
-{
-    match change {
-        Change::Exec { .. } => Answer::Executed {
-            cred,
-            slot,
-            ended,
-            gains: *gains,
-        },
-        _ => Answer::Sealed { cred, slot },
     }
 }

@@ -215,7 +215,7 @@ impl State {
 }
 
 impl State {
-    /// Lets go of all that was given up.
+    /// Drops all that was given up.
     pub(crate) fn sweep(&mut self)
         ensures { self.new ≡ model.swept self.old }
     {
@@ -312,7 +312,7 @@ fn add_bases(prepared: &[Prepared], numbers: &mut Vec<u64>) -> Result<(), NoMemo
     Ok(())
 }
 
-/// Lets go of what was given up, if there is a sweep.
+/// Drops what was given up, if there is a sweep.
 pub fn sweep_if(late: &mut Vec<u64>, swept: bool)
     ensures items { late.new.items ≡ (if swept then [] else late.old.items) }
     ensures fewer { vec_len late.new ≤ vec_len late.old }

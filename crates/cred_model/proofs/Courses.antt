@@ -1,17 +1,20 @@
 -- How a line goes from event to event.
-use Rattle.std.proofs.Common.{◌≡◌, ℕ, ◌+◌, ◌<◌, List, [], ◌∷◌, ◌++◌, Some, None, Option, is_some, Bool, true, false, cond, nat_lt, refl, sym, ap, ◌∙◌, subst, arith}
+use Rattle.std.proofs.Common.{◌≡◌, ℕ, ◌+◌, ◌<◌, List, [], ◌∷◌, ◌++◌, Some, None, Option, is_some, Bool, true, false, cond, nat_lt, refl, sym, ap, ◌∙◌, subst}
+use Rattle.std.proofs.Common.{arith}
 use Rattle.std.specs.Prelude.{fold, ⊤}
 use Rattle.std.specs.Option.{IfSome, option_and_then}
 use Rattle.std.proofs.lemmas.List.Sums.{fold_push}
 use Rattle.std.proofs.lemmas.Bool.Decides.{nat_tests}
 use Rattle.cred_ids.specs.Limits.{TRIES}
 use Rattle.cred_event.specs.declared.content.Stage.{Stage}
-use Rattle.cred_event.specs.declared.content.Stage.TheVariants.{First, Acting, Asking, Opening, Calling, TakingTarget, Signalling, Tracing, ReleasingTarget, Preparing, Altering, Committing, Aborting, Overriding, TakingAccess, ReleasingAccess, Reverting, Releasing, Retrying}
+use Rattle.cred_event.specs.declared.content.Stage.TheVariants.{First, Acting, Asking, Opening, Calling, TakingTarget, Signalling, Tracing, ReleasingTarget}
+use Rattle.cred_event.specs.declared.content.Stage.TheVariants.{Preparing, Altering, Committing, Aborting, Overriding, TakingAccess, ReleasingAccess, Reverting}
+use Rattle.cred_event.specs.declared.content.Stage.TheVariants.{Releasing, Retrying}
 use Rattle.cred_event.specs.declared.answer.Answer.{Answer}
 use Rattle.cred_event.specs.declared.answer.Answer.TheVariants.{Stale}
 use Rattle.cred_event.specs.declared.content.Content.{Content}
 use Rattle.cred_event.specs.declared.content.Content.TheVariants.{Nothing, One, Id, Question, Open, Fcap, Signal, Ptrace, Change, Access, OnFile}
-use Rattle.cred_model.specs.Answers.{is_ok}
+use Rattle.cred_event.specs.Answers.{is_ok}
 use Rattle.cred_model.specs.Course.{Course, start, event_in, event_at, either, some_wait}
 use Rattle.cred_model.specs.Course.{next_stage, is_stale, next_try, after, most, left, is_bounded}
 use Rattle.cred_model.specs.Course.{leads, Leads}
@@ -59,23 +62,31 @@ next_falls (Open task file want fd) Opening answer is = ((λ line. refl), omega 
 next_falls (Fcap task fd wanted) First answer is = or_ends (Fcap task fd wanted) First (is_ok answer) Asking ((λ line. refl), omega arith)
 next_falls (Fcap task fd wanted) Asking answer is = ((λ line. refl), omega arith)
 next_falls (Signal task to) First answer is = or_ends (Signal task to) First (is_ok answer) TakingTarget ((λ line. refl), omega arith)
-next_falls (Signal task to) TakingTarget answer is = or_else (Signal task to) TakingTarget answer Signalling Releasing ((λ line. refl), omega arith) ((λ line. refl), omega arith)
+next_falls (Signal task to) TakingTarget answer is =
+    or_else (Signal task to) TakingTarget answer Signalling Releasing ((λ line. refl), omega arith) ((λ line. refl), omega arith)
 next_falls (Signal task to) Signalling answer is = ((λ line. refl), omega arith)
 next_falls (Signal task to) ReleasingTarget answer is = ((λ line. refl), omega arith)
 next_falls (Ptrace task to mode) First answer is = or_ends (Ptrace task to mode) First (is_ok answer) TakingTarget ((λ line. refl), omega arith)
-next_falls (Ptrace task to mode) TakingTarget answer is = or_else (Ptrace task to mode) TakingTarget answer Tracing Releasing ((λ line. refl), omega arith) ((λ line. refl), omega arith)
+next_falls (Ptrace task to mode) TakingTarget answer is =
+    or_else (Ptrace task to mode) TakingTarget answer Tracing Releasing ((λ line. refl), omega arith) ((λ line. refl), omega arith)
 next_falls (Ptrace task to mode) Tracing answer is = ((λ line. refl), omega arith)
 next_falls (Ptrace task to mode) ReleasingTarget answer is = ((λ line. refl), omega arith)
 next_falls (Change task change) First answer is = or_ends (Change task change) First (is_ok answer) Preparing ((λ line. refl), omega arith)
-next_falls (Change task change) Preparing answer is = or_else (Change task change) Preparing answer Altering Releasing ((λ line. refl), omega arith) ((λ line. refl), omega arith)
-next_falls (Change task change) Altering answer is = or_else (Change task change) Altering answer Committing Aborting ((λ line. refl), omega arith) ((λ line. refl), omega arith)
-next_falls (Change task change) Committing answer is = or_else (Change task change) Committing answer Releasing Aborting ((λ line. refl), omega arith) ((λ line. refl), omega arith)
+next_falls (Change task change) Preparing answer is =
+    or_else (Change task change) Preparing answer Altering Releasing ((λ line. refl), omega arith) ((λ line. refl), omega arith)
+next_falls (Change task change) Altering answer is =
+    or_else (Change task change) Altering answer Committing Aborting ((λ line. refl), omega arith) ((λ line. refl), omega arith)
+next_falls (Change task change) Committing answer is =
+    or_else (Change task change) Committing answer Releasing Aborting ((λ line. refl), omega arith) ((λ line. refl), omega arith)
 next_falls (Change task change) Aborting answer is = ((λ line. refl), omega arith)
 next_falls (Change task change) Retrying answer is = ((λ line. refl), omega arith)
 next_falls (Access task file want) First answer is = or_ends (Access task file want) First (is_ok answer) Preparing ((λ line. refl), omega arith)
-next_falls (Access task file want) Preparing answer is = or_else (Access task file want) Preparing answer Altering Releasing ((λ line. refl), omega arith) ((λ line. refl), omega arith)
-next_falls (Access task file want) Overriding answer is = or_else (Access task file want) Overriding answer TakingAccess Aborting ((λ line. refl), omega arith) ((λ line. refl), omega arith)
-next_falls (Access task file want) TakingAccess answer is = or_else (Access task file want) TakingAccess answer Asking Reverting ((λ line. refl), omega arith) ((λ line. refl), omega arith)
+next_falls (Access task file want) Preparing answer is =
+    or_else (Access task file want) Preparing answer Altering Releasing ((λ line. refl), omega arith) ((λ line. refl), omega arith)
+next_falls (Access task file want) Overriding answer is =
+    or_else (Access task file want) Overriding answer TakingAccess Aborting ((λ line. refl), omega arith) ((λ line. refl), omega arith)
+next_falls (Access task file want) TakingAccess answer is =
+    or_else (Access task file want) TakingAccess answer Asking Reverting ((λ line. refl), omega arith) ((λ line. refl), omega arith)
 next_falls (Access task file want) Altering answer is = ((λ line. refl), omega arith)
 next_falls (Access task file want) Asking answer is = ((λ line. refl), omega arith)
 next_falls (Access task file want) ReleasingAccess answer is = ((λ line. refl), omega arith)
@@ -151,12 +162,18 @@ pub follows : (content : Content) (course : Course) (stage : Stage) (answer : An
     → Follows content course (after content course answer)
 follows content course stage answer here fits =
     let is : IsStageOf content stage = subst (λ o. IfSome o (IsStageOf content)) here fits in
-    subst (λ (o : Option Stage). Follows content course (cond (is_stale o answer) (next_try course) (record course { stage = option_and_then (λ s. next_stage content s answer) o }))) (sym here)
+    subst
+    (λ (o : Option Stage). Follows content course
+    (cond (is_stale o answer) (next_try course) (record course { stage = option_and_then (λ s. next_stage content s answer) o })))
+    (sym here)
     (follows-by content course stage answer here is)
 
 ended_fits : (content : Content) (course : Course) (answer : Answer) → course.stage ≡ None → Fits content (after content course answer)
 ended_fits content course answer here =
-    subst (λ (o : Option Stage). Fits content (cond (is_stale o answer) (next_try course) (record course { stage = option_and_then (λ s. next_stage content s answer) o }))) (sym here) tt
+    subst
+    (λ (o : Option Stage). Fits content
+    (cond (is_stale o answer) (next_try course) (record course { stage = option_and_then (λ s. next_stage content s answer) o })))
+    (sym here) tt
 
 after_fits : (content : Content) (course : Course) (answer : Answer) (o : Option Stage) → course.stage ≡ o → Fits content course
     → Fits content (after content course answer)

@@ -9,7 +9,7 @@ pub mod Rising
 pub mod Waiting
 pub mod Numbers
 pub mod Names
-pub mod Changing
+pub mod FileChanges
 pub mod Referred
 pub mod Likes
 pub mod LikeReads

@@ -1,10 +1,12 @@
 -- Each event does the same in two states that are alike.
-use Rattle.std.proofs.Common.{◌≡◌, ◌==◌, ◌-◌, ℕ, List, [], ◌∷◌, ◌++◌, length, drop, position, slice_get, slice_set, Option, None, Result, Ok, Err, ok_or, true, false, cond, refl, sym, ap, ◌∙◌, subst}
+use Rattle.std.proofs.Common.{◌≡◌, ◌==◌, ◌-◌, ℕ, List, [], ◌∷◌, ◌++◌, length, drop, position, slice_get, slice_set, Option, None, Result, Ok, Err, ok_or, true}
+use Rattle.std.proofs.Common.{false, cond, refl, sym, ap, ◌∙◌, subst}
 use Rattle.std.specs.List.{All, count_by, find, remove}
 use Rattle.std.specs.Option.{option_and_then, option_map_or}
 use Rattle.std.proofs.lemmas.List.Elements.{All-append, All-cons, All-drop, All-push, All-nil}
 use Rattle.cred_ids.specs.Limits.{TASKS, OPEN_FILES, HOLDS, PREPARED, DEPTH}
 use Rattle.cred_ids.specs.declared.arg.Arg.{Arg}
+use Rattle.cred_ids.specs.Tests.{◌>>=◌}
 use Rattle.cred_record.specs.Credential.{Credential, first_credential}
 use Rattle.cred_record.specs.File.{File}
 use Rattle.cred_record.specs.declared.refusal.Denial.{Denial}
@@ -14,7 +16,8 @@ use Rattle.cred_rules.specs.Access.{may_signal}
 use Rattle.cred_rules.specs.Files.{chown, chmod, set_attr}
 use Rattle.cred_rules.specs.SetId.{set_id}
 use Rattle.cred_event.specs.declared.answer.Answer.{Answer}
-use Rattle.cred_event.specs.declared.answer.Answer.TheVariants.{Done, Sealed, Kept, Began, Acted, Told, Ebadf, Eperm, Einval, NoTask, NoHold, NoPrepared, NoBroadcast, NotOverridden, Stale, Aborted}
+use Rattle.cred_event.specs.declared.answer.Answer.TheVariants.{Done, Sealed, Kept, Began, Acted, Told, Ebadf, Eperm, Einval, NoTask, NoHold, NoPrepared}
+use Rattle.cred_event.specs.declared.answer.Answer.TheVariants.{NoBroadcast, NotOverridden, Stale, Aborted}
 use Rattle.cred_event.specs.declared.answer.Told.TheVariants as told
 use Rattle.cred_event.specs.declared.answer.AbortCause.{AbortCause}
 use Rattle.cred_event.specs.declared.answer.AbortCause.TheVariants as cause
@@ -24,27 +27,35 @@ use Rattle.cred_event.specs.declared.event.Event.{Event}
 use Rattle.cred_event.specs.declared.event.Mode.{Mode}
 use Rattle.cred_event.specs.declared.event.Side.{Side}
 use Rattle.cred_event.specs.declared.event.Query.{Query}
-use Rattle.cred_event.specs.declared.event.Event.TheVariants.{Init, Take, TakeFile, Release, Ask, Signal, Prepare, Alter, Commit, Abort, Override, Revert, Begin, Act, OpenFile, CloseFile, Spawn, Fork, Exit, Sweep, Dumpable, Dumped, Ptrace, Chown, Chmod, SetAttr, Stat, Raw}
+use Rattle.cred_event.specs.declared.event.Event.TheVariants.{Init, Take, TakeFile, Release, Ask, Signal, Prepare, Alter, Commit, Abort, Override, Revert}
+use Rattle.cred_event.specs.declared.event.Event.TheVariants.{Begin, Act, OpenFile, CloseFile, Spawn, Fork, Exit, Sweep, Dumpable, Dumped, Ptrace, Chown, Chmod}
+use Rattle.cred_event.specs.declared.event.Event.TheVariants.{SetAttr, Stat, Raw}
 use Rattle.cred_model.specs.Script.{Script, chain_of, root_of, reaches}
 use Rattle.cred_model.specs.Named.{change_files}
-use Rattle.cred_model.specs.State.{State, SealedCred, Task, Broadcast, OpenFile as Open, Hold, Prepared, Changed, ProcessFlag, Numbered, numbered, task_of, cast_of, cast_in, begun_by, open_of, hold_of, prepared_of, held_by, info_of}
+use Rattle.cred_model.specs.State.{State, SealedCred, Task, Broadcast, OpenFile as Open, Hold, Prepared, Changed, ProcessFlag, Numbered, numbered, task_of}
+use Rattle.cred_model.specs.State.{cast_of, cast_in, begun_by, open_of, hold_of, prepared_of, held_by, info_of}
 use Rattle.cred_model.specs.Slots.{swept}
 use Rattle.cred_model.specs.Ptrace.{may_trace}
-use Rattle.cred_model.specs.Dumpable.{is_dumpable, with_process_flag, set_flag, without_flag, differs, renewed, flags_by, flags_committed, flags_begun, flags_left, flag_of_value}
+use Rattle.cred_model.specs.Dumpable.{is_dumpable, with_process_flag, set_flag, without_flag, differs, renewed, flags_by, flags_committed, flags_begun}
+use Rattle.cred_model.specs.Dumpable.{flags_left, flag_of_value}
 use Rattle.cred_model.specs.Answers.{checked}
 use Rattle.cred_model.specs.Change.{by_change, by_rule}
 use Rattle.cred_model.specs.Ends.{is_task, is_thread_of, ended}
 use Rattle.cred_model.specs.Casts.{not_busy, others_of, with_cast, waits_no_more, joined, dropped}
-use Rattle.cred_model.specs.Moves.{◌>>=◌, none_or, fewer_or, unless_refused, not_overridden}
+use Rattle.cred_model.specs.Moves.{none_or, fewer_or, unless_refused, not_overridden}
 use Rattle.cred_model.specs.Moves.{table_full}
 use Rattle.cred_model.specs.Moves.{first_task, with_overrides, holding, with_override, with_current}
 use Rattle.cred_model.specs.Moves.{given_up, committed, altered, preparing, created, replaced}
-use Rattle.cred_model.specs.Step.{try_commit, done, ends_with, casts_after, commit_answer, aborted, follow, take_hold, for_task, for_access, override_held, override_prepared, by_file}
+use Rattle.cred_model.specs.Step.{try_commit, done, ends_with, casts_after, commit_answer, aborted, follow, take_hold, for_task, for_access, override_held}
+use Rattle.cred_model.specs.Step.{override_prepared, by_file}
 use Rattle.cred_model.specs.Like.{IsLike, AreAlike}
 use Rattle.cred_model.proofs.Lists.{All-remove, find_each, get_each}
-use Rattle.cred_model.proofs.Referred.{EachRef, each_updated, each_overriding, each_changed, each_tasks, each_casts, each_flags, each_infos, each_files, each_holds, each_prepared, each_deferred, each_ended}
-use Rattle.cred_model.proofs.LikeReads.{with, Same, slots_of, each_same, same_numbered, same_credential, same_opener, same_held, numbered_by, credential_by, opener_by, held_by_each}
-use Rattle.cred_model.proofs.LikeTests.{BothAre, tested, read, found, either, like_with, like_casts, like_flags, like_sealed, same_next, gave, full_like, in_slots}
+use Rattle.cred_model.proofs.Referred.{EachRef, each_updated, each_overriding, each_changed, each_tasks, each_casts, each_flags, each_infos, each_files}
+use Rattle.cred_model.proofs.Referred.{each_holds, each_prepared, each_deferred, each_ended}
+use Rattle.cred_model.proofs.LikeReads.{with, Same, slots_of, each_same, same_numbered, same_credential, same_opener, same_held, numbered_by, credential_by}
+use Rattle.cred_model.proofs.LikeReads.{opener_by, held_by_each}
+use Rattle.cred_model.proofs.LikeTests.{BothAre, tested, read, found, either, like_with, like_casts, like_flags, like_sealed, same_next, gave, full_like}
+use Rattle.cred_model.proofs.LikeTests.{in_slots}
 
 -- ---- the events
 
@@ -96,7 +107,8 @@ module _ (script : Script) (s : State) (cs : List SealedCred) (line : ℕ) (like
       (λ idle. tested (none_or (task_of s task) _) _ _
       (λ free. tested (fewer_or (length s.tasks) TASKS _) _ _
       (λ few. in_slots s cs table_full
-      (λ now slot. (Sealed (length now.creds) slot, record (created now (new (length now.creds)) cred slot) { dumpable = flags_begun now process })) like (full_like s cs like.slots)
+      (λ now slot. (Sealed (length now.creds) slot, record (created now (new (length now.creds)) cred slot) { dumpable = flags_begun now process })) like
+      (full_like s cs like.slots)
       (λ gone each slot. like_sealed (λ n. Sealed n slot) (λ n. record (gave s gone) { tasks = s.tasks ++ new n ∷ []; dumpable = flags_begun s process })
       s.creds cs (record { cred = cred; slot = slot }) like.slots
       (each_flags
@@ -324,7 +336,11 @@ module _ (script : Script) (s : State) (cs : List SealedCred) (line : ℕ) (like
       in_slots s cs table_full
       (λ now slot. (
         Began (length now.creds) slot (length others),
-        record (replaced now task old.number new slot) { casts = with_cast now.casts cast; dumpable = renewed now.dumpable owner.process (differs old.cred new) },
+        record (replaced now task old.number new slot) {
+          casts = with_cast now.casts cast;
+          dumpable = renewed now.dumpable owner.process
+              (differs old.cred new);
+        },
       ))
       like (full_like s cs like.slots)
       (λ gone each slot. like_sealed (λ n. Began n slot (length others))
@@ -353,7 +369,11 @@ module _ (script : Script) (s : State) (cs : List SealedCred) (line : ℕ) (like
       in_slots s cs (λ now. (Aborted task cause.Full, aborted cast now))
       (λ now slot. (
         Acted task (length now.creds) slot left,
-        record (replaced now task old.number new slot) { casts = waits_no_more task now.casts; dumpable = renewed now.dumpable owner.process (differs old.cred new) },
+        record (replaced now task old.number new slot) {
+          casts = waits_no_more task now.casts;
+          dumpable = renewed now.dumpable owner.process
+              (differs old.cred new);
+        },
       )) like
       (aborted_like cause.Full task cast)
       (λ gone each slot. like_sealed (λ n. Acted task n slot left)

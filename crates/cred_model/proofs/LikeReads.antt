@@ -1,16 +1,18 @@
 -- What an event reads of a state, where another has the same but for credentials that nothing
 -- refers to.
-use Rattle.std.proofs.Common.{◌≡◌, ◌==◌, ◌||◌, not, ℕ, zero, suc, List, [], ◌∷◌, ◌++◌, length, map, slice_get, Some, None, Bool, false, refl, sym, ap, ◌∙◌, arith}
+use Rattle.std.proofs.Common.{◌≡◌, ◌==◌, ◌||◌, not, ℕ, zero, suc, List, [], ◌∷◌, ◌++◌, length, map, slice_get, Some, None, Bool, false, refl, sym, ap, ◌∙◌}
+use Rattle.std.proofs.Common.{arith}
 use Rattle.std.specs.List.{All, find, list_any}
 use Rattle.std.specs.Option.{IfSome, option_and_then, option_map, option_map_or}
 use Rattle.std.proofs.lemmas.List.{length-map}
 use mathlib.Core.Path.{fun_ext}
 use Rattle.cred_event.specs.declared.event.Side.{Side}
 use Rattle.cred_model.specs.State.{State, SealedCred, Numbered, number_on, numbered, current_of, credential_of, opener_of, held_by}
-use Rattle.cred_model.specs.Slots.{refs, stands_in, is_kept, slots, least_free}
+use Rattle.cred_model.specs.Slots.{refs, stands_in, is_kept, least_free}
 use Rattle.cred_model.specs.Like.{IsLike}
 use Rattle.cred_model.proofs.Lists.{find_each, then_same, then_each}
 use Rattle.cred_model.proofs.Referred.{EachRef, each_ref, each_side}
+use Rattle.cred_ids.specs.Limits.{slots}
 
 -- the state with these credentials in the place of its own
 abbrev pub with : State → List SealedCred → State

@@ -7,11 +7,12 @@ use Rattle.std.proofs.lemmas.Option.{slice_get_past}
 use Rattle.cred_event.specs.declared.answer.Answer.{Answer}
 use Rattle.cred_model.specs.State.{State, Broadcast, ProcessFlag, SealedCred}
 use Rattle.cred_model.specs.Slots.{refs, least_free, swept}
-use Rattle.cred_model.specs.Moves.{◌>>=◌, in_slot, table_full}
+use Rattle.cred_model.specs.Moves.{in_slot, table_full}
 use Rattle.cred_model.specs.Step.{outcome}
 use Rattle.cred_model.specs.Like.{IsLike, AreAlike}
 use Rattle.cred_model.proofs.Referred.{EachRef, refs_each, each_deferred}
 use Rattle.cred_model.proofs.LikeReads.{with, Same, slots_of, each_same, same_length, same_free, same_past}
+use Rattle.cred_ids.specs.Tests.{◌>>=◌}
 
 -- ---- the tests of an event
 

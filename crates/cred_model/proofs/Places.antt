@@ -1,5 +1,6 @@
 -- The first that passes a test, and its place.
-use Rattle.std.proofs.Common.{◌≡◌, ℕ, zero, suc, ◌+◌, ◌<◌, Bool, true, false, not, cond, nat_lt, List, [], ◌∷◌, length, find, is_some, position, slice_get, get_or, Option, None, Some, refl, ap, ◌∙◌, subst, arith}
+use Rattle.std.proofs.Common.{◌≡◌, ℕ, zero, suc, ◌+◌, ◌<◌, Bool, true, false, not, cond, nat_lt, List, [], ◌∷◌, length, find, is_some, position, slice_get}
+use Rattle.std.proofs.Common.{get_or, Option, None, Some, refl, ap, ◌∙◌, subst, arith}
 use Rattle.std.specs.List.{prefix_len}
 use Rattle.std.specs.Option.{IfSome}
 use Rattle.std.proofs.lemmas.Bool.Decides.{nat_tests}
@@ -15,7 +16,8 @@ find-first test (x ∷ xs) (suc i) d within here before =
     ∙ find-first test xs i d (omega arith) here (λ k h. before (suc k) (omega arith))
 
 -- what stands at the place of the first that passes is what is found
-pub find-at : {X : Type 0} (test : X → Bool) (xs : List X) (place : ℕ) (x : X) → position test xs ≡ Some place → slice_get xs place ≡ Some x → find test xs ≡ Some x
+pub find-at : {X : Type 0} (test : X → Bool) (xs : List X) (place : ℕ) (x : X) → position test xs ≡ Some place → slice_get xs place ≡ Some x
+    → find test xs ≡ Some x
 find-at test xs place x found there =
     let at = position-Some test xs place x found in
     find-first test xs place x at.0 at.1 at.2 ∙ ap Some (get_or_from_slice_get xs place x x there)
@@ -28,7 +30,8 @@ first_place test (y ∷ ys) x found = at (test y) found (λ there. first_place t
   where
     at : (b : Bool) → cond b (Some y) (find test ys) ≡ Some x
         → (find test ys ≡ Some x → (prefix_len (λ z. not (test z)) ys < length ys) × (slice_get ys (prefix_len (λ z. not (test z)) ys) ≡ Some x))
-        → (cond (not b) (1 + prefix_len (λ z. not (test z)) ys) 0 < length (y ∷ ys)) × (slice_get (y ∷ ys) (cond (not b) (1 + prefix_len (λ z. not (test z)) ys) 0) ≡ Some x)
+        → (cond (not b) (1 + prefix_len (λ z. not (test z)) ys) 0 < length (y ∷ ys))
+        × (slice_get (y ∷ ys) (cond (not b) (1 + prefix_len (λ z. not (test z)) ys) 0) ≡ Some x)
     at true here later = (omega arith, here)
     at false here later =
         let rest = later here in

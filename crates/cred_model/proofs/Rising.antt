@@ -1,5 +1,6 @@
 -- Numbers that are put in order, and numbers that are left out.
-use Rattle.std.proofs.Common.{◌≡◌, ◌≢◌, ◌==◌, ◌||◌, not, ℕ, suc, ◌<◌, ◌≤◌, List, [], ◌∷◌, length, Some, Bool, true, false, cond, nat_le, if◌then◌else◌, refl, ap, ◌∙◌, arith}
+use Rattle.std.proofs.Common.{◌≡◌, ◌≢◌, ◌==◌, ◌||◌, not, ℕ, suc, ◌<◌, ◌≤◌, List, [], ◌∷◌, length, Some, Bool, true, false, cond, nat_le, if◌then◌else◌, refl}
+use Rattle.std.proofs.Common.{ap, ◌∙◌, arith}
 use Rattle.std.specs.List.{All, AllPairs, filter, find, list_any}
 use Rattle.std.proofs.lemmas.List.Elements.{All-cons, All-head, All-nil, All-tail, All-weaker}
 use Rattle.std.proofs.lemmas.List.Kept.{AllPairs-cons}

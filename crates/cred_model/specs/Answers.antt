@@ -1,5 +1,5 @@
--- What a rule and a question answer, and which answers are refusals.
-use Rattle.std.specs.Prelude.{Bool, true, false, Some, None, if◌then◌else◌}
+-- What a rule and a question answer.
+use Rattle.std.specs.Prelude.{Bool, Some, None, if◌then◌else◌}
 use Rattle.std.specs.declared.option.Option.{Option}
 use Rattle.cred_record.specs.Credential.{Credential}
 use Rattle.cred_record.specs.File.{File}
@@ -40,15 +40,3 @@ reply file c (Capable n) = flag (read_in c.eff n)
 reply file c (Bset n) = flag (bset_read c n)
 reply file c (AmbIs n) = flag (amb_is_set c n)
 reply file c (Check place asked) = checked c file asked
-
--- the answer is no refusal
-abbrev pub is_ok : Answer → Bool
-is_ok answer.Done = true
-is_ok (answer.Sealed cred slot) = true
-is_ok (answer.Kept slot) = true
-is_ok (answer.Was previous) = true
-is_ok (answer.Executed cred slot ended gains) = true
-is_ok (answer.Began cred slot left) = true
-is_ok (answer.Acted task cred slot left) = true
-is_ok (answer.Told told) = true
-is_ok answer = false

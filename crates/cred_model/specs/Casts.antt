@@ -1,11 +1,13 @@
 -- Broadcasts: who waits, and when one is closed (nptl(7)).
 use Rattle.std.specs.Prelude.{ℕ, ◌==◌, Bool, not, List, [], ◌∷◌, ◌++◌, length, map, None, Some}
-use Rattle.std.specs.Prelude.{Result, Ok, Err, if◌then◌else◌}
+use Rattle.std.specs.Prelude.{Result, Ok, Err, if◌then◌else◌, ◌≡◌, true, false, All}
 use Rattle.std.specs.declared.option.Option.{Option}
 use Rattle.std.specs.List.{filter, list_any}
 use Rattle.cred_ids.specs.Ordered.{in_order}
 use Rattle.cred_event.specs.declared.answer.Answer.{Answer}
 use Rattle.cred_event.specs.declared.answer.Answer.TheVariants.{Busy}
+use Rattle.cred_event.specs.declared.event.Change.{Change}
+use Rattle.cred_event.specs.declared.event.Change.TheVariants.{Exec}
 use Rattle.cred_model.specs.State.{Task, Broadcast}
 use Rattle.cred_model.specs.Ends.{is_beside}
 
@@ -21,6 +23,14 @@ others_of task tasks = in_order (map (λ t. t.number) (filter (is_beside task) t
 -- the task waits in the broadcast
 abbrev pub waits_in : ℕ → Broadcast → Bool
 waits_in task cast = list_any (λ n. n == task) cast.waiting
+
+-- The task waits in none of these.
+abbrev pub WaitsNowhere : List Broadcast → ℕ → Type 0
+WaitsNowhere casts task = All (λ b. waits_in task b ≡ false) casts
+
+-- Nobody waits in both.
+abbrev pub SharesNone : Broadcast → Broadcast → Type 0
+SharesNone a b = (task : ℕ) → waits_in task a ≡ true → waits_in task b ≡ false
 
 -- Somebody waits. A broadcast in which nobody does is completed, and is open no longer.
 abbrev pub is_open : Broadcast → Bool
@@ -51,3 +61,9 @@ joined parent child casts = map (with_child parent child) casts
 -- the broadcast of the process is dropped
 abbrev pub dropped : ℕ → List Broadcast → List Broadcast
 dropped process casts = filter (λ cast. not (cast.process == process)) casts
+
+-- the broadcasts that a commit of this change leaves open: an execve drops that of its process
+-- (execve(2))
+abbrev pub casts_left : Change → ℕ → List Broadcast → List Broadcast
+casts_left (Exec file) process casts = dropped process casts
+casts_left change process casts = casts

@@ -29,7 +29,7 @@ use Rattle.cred_event.specs.declared.content.Content.TheVariants.{Fcap, Signal, 
 use Rattle.cred_event.specs.declared.content.Content.TheVariants.{Access, OnFile}
 use Rattle.cred_event.specs.declared.content.FileCall.{FileCall}
 use Rattle.cred_event.specs.declared.content.FileCall.TheVariants as call
-use Rattle.cred_model.specs.Answers.{is_ok}
+use Rattle.cred_event.specs.Answers.{is_ok}
 
 -- The labels that a line takes for itself: for what it holds first; for the new credential that it
 -- prepares, or the credential of the task that it signals or looks into; and for what access(2)
@@ -74,7 +74,7 @@ calling hold (call.SetAttr file attr) = event.SetAttr hold file attr
 calling hold (call.Stat file) = event.Stat hold file
 
 -- The event of a stage. A line takes hold of the credential that its task acts with, does what it
--- is about, and lets go.
+-- is about, and drops it.
 abbrev pub event_in : ℕ → Content → Stage → Option Event
 event_in line (One event) First = Some event
 -- an id call: the task makes its step, and then the other threads of its process, one after another

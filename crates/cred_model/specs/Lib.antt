@@ -1,6 +1,6 @@
 pub mod Script
 pub mod Named
-pub mod Changing
+pub mod FileChanges
 pub mod State
 pub mod Slots
 pub mod Ends

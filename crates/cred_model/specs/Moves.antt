@@ -6,15 +6,11 @@ use Rattle.std.specs.Option.{option_map_or}
 use Rattle.cred_record.specs.Credential.{Credential}
 use Rattle.cred_event.specs.declared.answer.Answer.{Answer}
 use Rattle.cred_event.specs.declared.answer.Answer.TheVariants.{Overridden, TableFull}
+use Rattle.cred_event.specs.declared.answer.AbortCause.{AbortCause}
+use Rattle.cred_event.specs.declared.answer.AbortCause.TheVariants.{Perm, Full}
 use Rattle.cred_model.specs.State.{State, Task, Prepared, Changed}
-use Rattle.cred_model.specs.Slots.{swept_if_full, free}
-use Rattle.cred_model.specs.Answers.{is_ok}
-
--- An event's tests come in order: the first that refuses gives the answer.
-infixl 10 ◌>>=◌
-abbrev pub ◌>>=◌ : {A B : Type 0} → Result A Answer → (A → Result B Answer) → Result B Answer
-(Ok x) >>= f = f x
-(Err answer) >>= f = Err answer
+use Rattle.cred_model.specs.Slots.{swept_if_full, free, swept}
+use Rattle.cred_event.specs.Answers.{is_ok}
 
 -- refused with this answer where there is a value
 abbrev pub none_or : {A : Type 0} → Option A → Answer → Result (Unit {0}) Answer
@@ -37,6 +33,12 @@ not_overridden t = if length t.overrides == 0 then Ok tt else Err (Overridden (l
 abbrev pub in_slot : State → (State → Answer × State) → (State → ℕ → Answer × State)
     → Answer × State
 in_slot s full does = option_map_or (does (swept_if_full s)) (free s) (full (swept_if_full s))
+
+-- the state that a task left which couldn't follow a call: where it found no free slot, after a
+-- sweep
+abbrev pub at_abort : AbortCause → State → State
+at_abort Perm s = s
+at_abort Full s = swept s
 
 -- where no slot is free
 abbrev pub table_full : State → Answer × State

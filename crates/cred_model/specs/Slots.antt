@@ -2,9 +2,9 @@
 use Rattle.std.specs.Prelude.{ℕ, ◌==◌, Bool, false, not, ◌||◌, List, [], ◌∷◌, ◌++◌, map, find}
 use Rattle.std.specs.Prelude.{count_by, slice_get, is_some, if◌then◌else◌}
 use Rattle.std.specs.declared.option.Option.{Option}
-use Rattle.std.specs.List.{concat, flat_map, list_any, range_with_len}
+use Rattle.std.specs.List.{concat, flat_map, list_any}
 use Rattle.std.specs.Option.{option_map_or}
-use Rattle.cred_ids.specs.Limits.{SLOTS}
+use Rattle.cred_ids.specs.Limits.{slots}
 use Rattle.cred_model.specs.State.{State, SealedCred}
 
 -- The places that refer to a credential, by its number: a list for each kind of thing that refers.
@@ -46,15 +46,11 @@ is_kept s slot = list_any (λ kept. kept == slot) (kept s)
 abbrev pub is_live : State → ℕ → Bool
 is_live s slot = list_any (λ number. stands_in s.creds slot number) (refs s) || is_kept s slot
 
--- 0 to 255
-unfoldable pub slots : List ℕ
-slots = range_with_len 0 SLOTS
-
 -- the least slot that isn't live
 abbrev pub least_free : State → Option ℕ
 least_free s = find (λ slot. not (is_live s slot)) slots
 
--- The sweep lets go of all that was given up.
+-- The sweep drops all that was given up.
 abbrev pub swept : State → State
 swept s = record s { deferred = [] }
 

@@ -2,7 +2,7 @@
 use Rattle.std.specs.Prelude.{ℕ, ◌==◌, Bool, List, [], ◌∷◌, find, slice_get, None}
 use Rattle.std.specs.declared.option.Option.{Option}
 use Rattle.std.specs.Option.{option_map, option_and_then, unwrap_or}
-use Rattle.cred_record.specs.Credential.{Credential}
+use Rattle.cred_record.specs.Credential.{Credential, first_credential}
 use Rattle.cred_record.specs.File.{File}
 use Rattle.cred_record.specs.declared.gains.Gains.{Gains}
 use Rattle.cred_record.specs.declared.id_call.IdCall.{IdCall}
@@ -136,6 +136,14 @@ abbrev pub numbered : List SealedCred → ℕ → Option Numbered
 numbered creds number =
     option_map (λ sealed. record { number = number; cred = sealed.cred; slot = sealed.slot })
     (slice_get creds number)
+
+-- what stands for the credential where none is, or where it doesn't matter which one it is
+unfoldable pub no_credential : Credential
+no_credential = first_credential 0 0 0 0
+
+-- a sealed credential by its number and its slot alone
+abbrev pub numbered_in : ℕ → ℕ → Numbered
+numbered_in number slot = record { number = number; cred = no_credential; slot = slot }
 
 -- the current credential of a task
 abbrev pub current_of : State → ℕ → Option Numbered

@@ -5,6 +5,7 @@ use Rattle.std.specs.Prelude.{Some, None, is_some, if◌then◌else◌, count_by
 use Rattle.std.specs.declared.option.Option.{Option}
 use Rattle.std.specs.Option.{option_and_then, option_map_or}
 use Rattle.cred_ids.specs.Limits.{TASKS, OPEN_FILES, HOLDS, PREPARED, DEPTH}
+use Rattle.cred_ids.specs.Tests.{◌>>=◌}
 use Rattle.cred_record.specs.Credential.{Credential, first_credential}
 use Rattle.cred_record.specs.File.{File}
 use Rattle.cred_record.specs.declared.gains.Gains.{Gains}
@@ -53,7 +54,7 @@ use Rattle.cred_model.specs.Dumpable.{renewed, flags_committed, flags_begun, fla
 use Rattle.cred_model.specs.Dumpable.{flag_of_value}
 use Rattle.cred_model.specs.Answers.{checked, reply}
 use Rattle.cred_model.specs.Change.{by_change, by_rule}
-use Rattle.cred_model.specs.Moves.{◌>>=◌, none_or, fewer_or}
+use Rattle.cred_model.specs.Moves.{none_or, fewer_or}
 use Rattle.cred_model.specs.Moves.{unless_refused, not_overridden, in_slot, table_full, first_task}
 use Rattle.cred_model.specs.Moves.{created}
 use Rattle.cred_model.specs.Moves.{replaced, with_overrides, holding, preparing, altered, given_up}
@@ -71,7 +72,7 @@ casts_after (Exec file) task s = record s { casts = dropped task.process s.casts
 casts_after change task s = s
 
 -- what is answered where a change is committed, by what it was
-abbrev pub committed_by : Change → Gains → ℕ → ℕ → ℕ → Answer
+abbrev pub committed_by : Change → Gains → (number slot count : ℕ) → Answer
 committed_by (Exec file) gains number slot count = Executed number slot count gains
 committed_by change gains number slot count = Sealed number slot
 
@@ -93,7 +94,7 @@ try_commit s place p owner last =
     else (Stale p.base owner.current, given_up s place p)
 
 -- init: a first task is created, in a namespace where root has this user id
-abbrev pub by_init : State → ℕ → ℕ → ℕ → ℕ → ℕ → ℕ → Result (Answer × State) Answer
+abbrev pub by_init : State → (task process user group ns root : ℕ) → Result (Answer × State) Answer
 by_init s task process user group ns root = do
   idle ← not_busy (cast_in s process)
   new ← none_or (task_of s task) (Exists named.Task task)
@@ -124,7 +125,7 @@ by_take_file s label fd = do
   taken ← ok_or (opener_of s fd) Ebadf
   take_hold s label taken
 
--- a label lets go
+-- a label drops its hold
 abbrev pub by_release : State → ℕ → Result (Answer × State) Answer
 by_release s label = do
   place ← ok_or (position (λ h. h.label == label) s.holds) (NoHold label)
@@ -139,7 +140,7 @@ by_ask s label query = do
 
 -- A task signals another: the sender's credential and the target's decide, and whether both are of
 -- one process (kill(2)).
-abbrev pub by_signal : State → ℕ → ℕ → ℕ → ℕ → Result (Answer × State) Answer
+abbrev pub by_signal : State → (from hold to target : ℕ) → Result (Answer × State) Answer
 by_signal s from hold to target = do
   sender ← ok_or (task_of s from) (NoTask from)
   receiver ← ok_or (task_of s to) (NoTask to)
@@ -149,7 +150,7 @@ by_signal s from hold to target = do
       if may_signal own.cred other.cred same then Ok (Done, s) else Err Eperm
 
 -- a label prepares a new credential for a task, based on what another holds
-abbrev pub by_prepare : State → ℕ → ℕ → ℕ → Result (Answer × State) Answer
+abbrev pub by_prepare : State → (label task hold : ℕ) → Result (Answer × State) Answer
 by_prepare s label task hold = do
   owner ← ok_or (task_of s task) (NoTask task)
   idle ← not_busy (begun_by s task)
@@ -282,8 +283,8 @@ aborted cast s =
       dumpable = without_flag s.dumpable cast.process;
     }
 
--- The waiting thread makes the same call on its own current credential. A refusal, and a want of a
--- slot, end the process.
+-- The waiting thread makes the same call on its own current credential. A refusal, or no
+-- free slot, ends the process.
 abbrev pub follow : State → Broadcast → ℕ → Task → Numbered → Result Credential Answer
     → Answer × State
 follow s cast task owner old (Err refusal) = (Aborted task cause.Perm, aborted cast s)
@@ -307,7 +308,7 @@ by_act s number = do
 
 -- A file is opened under a descriptor: the credential that a label holds decides, and stays with it
 -- (open(2)).
-abbrev pub by_open : State → ℕ → ℕ → Want → ℕ → Result (Answer × State) Answer
+abbrev pub by_open : State → (hold place : ℕ) → Want → (fd : ℕ) → Result (Answer × State) Answer
 by_open s hold place asked fd = do
   held ← ok_or (held_by s hold) (NoHold hold)
   new ← none_or (open_of s fd) (Exists named.File fd)
@@ -345,7 +346,7 @@ by_spawn s task child = do
 
 -- fork: a new process, whose only thread shares the credential of the task that makes it, and waits
 -- nowhere. It is dumpable where the task's process is.
-abbrev pub by_fork : State → ℕ → ℕ → ℕ → Result (Answer × State) Answer
+abbrev pub by_fork : State → (task child process : ℕ) → Result (Answer × State) Answer
 by_fork s task child process = do
   owner ← ok_or (task_of s task) (NoTask task)
   parent ← ok_or (numbered s.creds owner.current) (NoTask task)
@@ -391,7 +392,8 @@ by_dumped s task = do
 
 -- A task asks to look into another: its credential and the target's decide, whether both are of one
 -- process, and whether the target's process is dumpable (ptrace(2), "Ptrace access mode checking").
-abbrev pub by_ptrace : Script → State → ℕ → ℕ → ℕ → ℕ → Mode → Result (Answer × State) Answer
+abbrev pub by_ptrace :
+    Script → State → (from hold to target : ℕ) → Mode → Result (Answer × State) Answer
 by_ptrace script s from hold to target mode = do
   sender ← ok_or (task_of s from) (NoTask from)
   receiver ← ok_or (task_of s to) (NoTask to)

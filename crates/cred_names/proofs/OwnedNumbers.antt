@@ -11,7 +11,8 @@ both true b h = (refl, h)
 both false b h = absurd (cc)
 
 -- what is found is found with an entry more
-found_on : (b : Bool) (one lane : ℕ) (rest more : Option ℕ) → (rest ≡ Some lane → more ≡ Some lane) → cond b (Some one) rest ≡ Some lane → cond b (Some one) more ≡ Some lane
+found_on : (b : Bool) (one lane : ℕ) (rest more : Option ℕ) → (rest ≡ Some lane → more ≡ Some lane) → cond b (Some one) rest ≡ Some lane
+    → cond b (Some one) more ≡ Some lane
 found_on true one lane rest more later is = is
 found_on false one lane rest more later is = later is
 
@@ -20,7 +21,8 @@ found_still test [] e lane is = absurd (cc)
 found_still test (d ∷ es) e lane is = found_on (test d.0) d.1 lane (lookup test es) _ (found_still test es e lane) is
 
 -- and the entry more where nothing was
-last_on : (b : Bool) (one lane : ℕ) (rest more : Option ℕ) → (rest ≡ None → more ≡ Some lane) → cond b (Some one) rest ≡ None → cond b (Some one) more ≡ Some lane
+last_on : (b : Bool) (one lane : ℕ) (rest more : Option ℕ) → (rest ≡ None → more ≡ Some lane) → cond b (Some one) rest ≡ None
+    → cond b (Some one) more ≡ Some lane
 last_on true one lane rest more later none = absurd (cc)
 last_on false one lane rest more later none = later none
 
@@ -57,7 +59,8 @@ own_or_none : (b : Bool) (lane : ℕ) → option_map_or (λ owner. owner == lane
 own_or_none true lane = grind (arith, nat_tests)
 own_or_none false lane = refl
 
-free_on : (b : Bool) (one lane : ℕ) (rest more : Option ℕ) → (rest ≡ None → option_map_or (λ owner. owner == lane) more true ≡ true) → cond b (Some one) rest ≡ None
+free_on : (b : Bool) (one lane : ℕ) (rest more : Option ℕ) → (rest ≡ None → option_map_or (λ owner. owner == lane) more true ≡ true)
+    → cond b (Some one) rest ≡ None
     → option_map_or (λ owner. owner == lane) (cond b (Some one) more) true ≡ true
 free_on true one lane rest more later none = absurd (cc)
 free_on false one lane rest more later none = later none
@@ -79,7 +82,8 @@ free_still owners lane number other free = by (owner_of owners other) refl free
     by (Some owner) is own = rw (keeps_one owners lane number other owner is) own
     by None is own = added (is_some (owner_of owners number)) is
 
-all_free_still : (numbers : List ℕ) (owners : Owners) (lane number : ℕ) → are_free owners lane numbers ≡ true → are_free (with_owner owners lane number) lane numbers ≡ true
+all_free_still : (numbers : List ℕ) (owners : Owners) (lane number : ℕ) → are_free owners lane numbers ≡ true
+    → are_free (with_owner owners lane number) lane numbers ≡ true
 all_free_still [] owners lane number free = refl
 all_free_still (other ∷ numbers) owners lane number free =
     let parts = both (is_free owners lane other) (are_free owners lane numbers) free in

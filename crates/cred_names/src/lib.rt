@@ -1,5 +1,5 @@
-//! What a script has named: the user namespaces that it declares, and which lane has which tasks
-//! and labels.
+//! What a script has named: its user namespaces, and which lane has which tasks and labels. Read it
+//! as part of `cred_script`.
 //!
 //! `specs/` says in `Namespaces` which root ids a declared namespace has, in `Labels` which labels
 //! a line names, and in `Owners` which lane has which tasks and labels, and what a line may name

@@ -1,6 +1,5 @@
 //! The user namespaces that a script declares (user_namespaces(7)).
 ghost use Rattle.std.specs.Prelude.{◌≡◌, ◌==◌, [], ◌++◌, IsSome, OnErr, OnOk, find, is_some};
-ghost use Rattle.std.specs.List.{list_any};
 ghost use Rattle.std.specs.Option.{option_map};
 ghost use Rattle.cred_model.specs.Script.{chain_in, lineage_in, reaches};
 ghost use Rattle.cred_names.specs.Namespaces as spec;

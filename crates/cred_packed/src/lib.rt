@@ -1,5 +1,5 @@
-//! A credential laid out in words of 64 bits, and read from them. What each word holds, and which
-//! words are a credential's, is said in `cred_record`.
+//! The credential as words of 64 bits, written and read: read it as part of `cred_record`, which
+//! says what each word holds, and which words are a credential's.
 #![tactic(auto)]
 
 mod reading;

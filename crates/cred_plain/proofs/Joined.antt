@@ -1,5 +1,6 @@
 -- A new thread waits where its creator does: in one broadcast, or in none.
-use Rattle.std.proofs.Common.{◌≡◌, ℕ, zero, suc, ◌<◌, ◌≤◌, nat_lt, cond, List, [], ◌∷◌, get_or, set, length, slice_get, Some, None, true, false, Bool, if◌then◌else◌, refl, sym, ap, ◌∙◌, arith}
+use Rattle.std.proofs.Common.{◌≡◌, ℕ, zero, suc, ◌<◌, ◌≤◌, nat_lt, cond, List, [], ◌∷◌, get_or, set, length, slice_get, Some, None, true, false, Bool}
+use Rattle.std.proofs.Common.{if◌then◌else◌, refl, sym, ap, ◌∙◌, arith}
 use Rattle.std.specs.List.{All, AllPairs, position, position_or_len}
 use Rattle.std.proofs.lemmas.List.Elements.{All-head, All-tail}
 use Rattle.std.proofs.lemmas.List.Folds.{find_at}
@@ -7,10 +8,10 @@ use Rattle.std.proofs.lemmas.List.Quantifiers.{position-Some}
 use Rattle.std.proofs.lemmas.Option.{slice_get_past}
 use Rattle.std.proofs.lemmas.Bool.Decides.{nat_tests}
 use Rattle.cred_model.specs.State.{Broadcast}
-use Rattle.cred_model.specs.Casts.{waits_in, with_child, joined}
+use Rattle.cred_model.specs.Casts.{waits_in, with_child, joined, SharesNone, WaitsNowhere}
 use Rattle.cred_model.proofs.Lists.{found_none}
 use Rattle.cred_model.proofs.Rising.{AllPairs-head, AllPairs-tail}
-use Rattle.cred_plain.specs.Casts.{SharesNone, WaitsNowhere, joins}
+use Rattle.cred_plain.specs.Casts.{joins}
 
 -- where no element has a place by a test, none passes it
 none_placed : {X : Type 0} (p : X → Bool) (xs : List X) → position p xs ≡ None → All (λ x. p x ≡ false) xs

@@ -12,4 +12,13 @@ pub few_others : (test : Task → Bool) (tasks : List Task) (others : List ℕ) 
     → length tasks ≤ TASKS → length others ≤ TASKS
 few_others test tasks others is few =
     let numbers = map (λ (t : Task). t.number) (filter test tasks) in
-    omega (arith, ap length is, length-in_order numbers, length-map (filter test tasks) (λ (t : Task). t.number), length-filter test tasks, count_by-le-length test tasks, few)
+    omega (
+      arith,
+      ap length is,
+      length-in_order numbers,
+      length-map (filter test tasks) (λ (t : Task). t.number),
+      length-filter test tasks,
+      count_by-le-length test
+          tasks,
+      few,
+    )

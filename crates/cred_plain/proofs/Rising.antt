@@ -1,5 +1,6 @@
 -- What is stored in the order of its numbers.
-use Rattle.std.proofs.Common.{◌≡◌, ◌≢◌, ℕ, suc, ◌+◌, ◌-◌, ◌<◌, ◌≤◌, ◌==◌, Bool, true, false, ltb, List, [], ◌∷◌, ◌++◌, length, find, get_or, Some, None, refl, ap, arith, inl, inr}
+use Rattle.std.proofs.Common.{◌≡◌, ◌≢◌, ℕ, suc, ◌+◌, ◌-◌, ◌<◌, ◌≤◌, ◌==◌, Bool, true, false, ltb, List, [], ◌∷◌, ◌++◌, length, find, get_or, Some, None, refl}
+use Rattle.std.proofs.Common.{ap, arith, inl, inr}
 use Rattle.std.specs.List.{filter}
 use Rattle.std.specs.List.Sorted.{IsNonDecreasingBy, IsPartitionPoint}
 use Rattle.std.proofs.lemmas.Bool.{cases_lt, ltb-true, ltb-false}
@@ -63,9 +64,12 @@ module _ (stored : List StoredCred) (n i : ℕ) (rising : IsNonDecreasingBy (λ 
 -- one more is stored, under the next number
 pub stores : (stored : List StoredCred) (v : StoredCred) (count : ℕ) → IsStored stored count → v.number ≡ count → IsStored (stored ++ v ∷ []) (count + 1)
 stores stored v count is next = record {
-  rising = IsNonDecreasingBy-push (λ (s : StoredCred). s.number) stored v is.rising (λ d some. let last = is.sealed (length stored - 1) d (omega arith) in omega (arith, last, next));
+  rising =
+      IsNonDecreasingBy-push (λ (s : StoredCred). s.number) stored v is.rising
+      (λ d some. let last = is.sealed (length stored - 1) d (omega arith) in omega (arith, last, next));
   sealed = All-push (λ (s : StoredCred). s.number < count + 1) stored v
-      (All-weaker (λ (s : StoredCred). s.number < count) (λ (s : StoredCred). s.number < count + 1) (λ s lt. omega arith) stored is.sealed) (omega (arith, next));
+      (All-weaker (λ (s : StoredCred). s.number < count) (λ (s : StoredCred). s.number < count + 1) (λ s lt. omega arith) stored is.sealed)
+      (omega (arith, next));
 }
 
 -- some of what is stored

@@ -1,5 +1,6 @@
 -- The sealed credentials, by those that are stored.
-use Rattle.std.proofs.Common.{◌≡◌, ◌≢◌, All, ℕ, zero, suc, ◌+◌, ◌<◌, ◌≤◌, ◌==◌, Bool, true, false, List, [], ◌∷◌, ◌++◌, length, find, slice_get, Option, Some, None, cond, refl, sym, ap, ◌∙◌, subst, arith, get_or}
+use Rattle.std.proofs.Common.{◌≡◌, ◌≢◌, All, ℕ, zero, suc, ◌+◌, ◌<◌, ◌≤◌, ◌==◌, Bool, true, false, List, [], ◌∷◌, ◌++◌, length, find, slice_get, Option, Some}
+use Rattle.std.proofs.Common.{None, cond, refl, sym, ap, ◌∙◌, subst, arith, get_or}
 use Rattle.std.specs.List.{filter}
 use Rattle.std.specs.Option.{IfSome, option_map, option_map_or}
 use Rattle.std.proofs.lemmas.Bool.Decides.{nat_tests}
@@ -32,7 +33,8 @@ find_last test [] y passes fail = rw passes refl
 find_last test (x ∷ xs) y passes fail = rw (fail 0 x (omega arith)) (find_last test xs y passes (λ k d h. fail (suc k) d (omega arith)))
 
 module _ (forgotten : Credential) where
-  same_slots : (stored : List StoredCred) (n : ℕ) (o : Option ℕ) → option_map (λ (sealed : SealedCred). sealed.slot) (option_map (sealed_at forgotten stored n) o) ≡ o
+  same_slots : (stored : List StoredCred) (n : ℕ) (o : Option ℕ)
+      → option_map (λ (sealed : SealedCred). sealed.slot) (option_map (sealed_at forgotten stored n) o) ≡ o
   same_slots stored n None = refl
   same_slots stored n (Some slot) = refl
 
@@ -72,7 +74,8 @@ module _ (forgotten : Credential) where
 
   -- another number's credential
   under-other : (stored : List StoredCred) (v : StoredCred) (n : ℕ) → v.number ≢ n → under forgotten (stored ++ v ∷ []) n ≡ under forgotten stored n
-  under-other stored v n other = ap (λ (o : Option StoredCred). option_map_or (λ s. s.cred) o forgotten) (find_others (λ (s : StoredCred). s.number == n) stored v test)
+  under-other stored v n other =
+      ap (λ (o : Option StoredCred). option_map_or (λ s. s.cred) o forgotten) (find_others (λ (s : StoredCred). s.number == n) stored v test)
     where
       test : (v.number == n) ≡ false
       test = elim (v.number == n) as (λ b. (v.number == n) ≡ b → b ≡ false) [
@@ -144,7 +147,8 @@ module _ (forgotten : Credential) where
   pub gone-sealed : (keep : ℕ → Bool) (stored : List StoredCred) (slots : List ℕ) (n : ℕ) → keep n ≡ false → forgotten ≡ gone
       → IfSome (slice_get (sealed_of forgotten (filter (λ s. keep s.number) stored) slots) n) (λ sealed. sealed.cred ≡ gone)
   gone-sealed keep stored slots n dropped is =
-      subst (λ (o : Option SealedCred). IfSome o (λ sealed. sealed.cred ≡ gone)) (sym (get-sealed (filter (λ s. keep s.number) stored) 0 slots n n (omega arith)))
+      subst (λ (o : Option SealedCred). IfSome o (λ sealed. sealed.cred ≡ gone))
+      (sym (get-sealed (filter (λ s. keep s.number) stored) 0 slots n n (omega arith)))
       (by (slice_get slots n))
     where
       by : (o : Option ℕ) → IfSome (option_map (sealed_at forgotten (filter (λ s. keep s.number) stored) n) o) (λ sealed. sealed.cred ≡ gone)

@@ -1,14 +1,15 @@
 -- The least that waits in a broadcast waits no more.
-use Rattle.std.proofs.Common.{◌≡◌, ◌==◌, ◌||◌, not, ℕ, zero, suc, ◌<◌, cond, List, [], ◌∷◌, drop, map, get_or, set, slice_get, length, Option, Some, true, false, Bool, refl, sym, ap, ◌∙◌, subst, arith}
+use Rattle.std.proofs.Common.{◌≡◌, ◌==◌, ◌||◌, not, ℕ, zero, suc, ◌<◌, cond, List, [], ◌∷◌, drop, map, get_or, set, slice_get, length, Option, Some, true}
+use Rattle.std.proofs.Common.{false, Bool, refl, sym, ap, ◌∙◌, subst, arith}
 use Rattle.std.specs.List.{All, AllPairs, filter, list_any, remove}
 use Rattle.std.specs.Option.{IsSomeAnd}
 use Rattle.std.proofs.lemmas.Bool.Decides.{nat_tests}
 use Rattle.std.proofs.lemmas.List.Elements.{All-head, All-tail}
 use Rattle.std.proofs.lemmas.Option.{slice_get-get_or}
 use Rattle.cred_model.specs.State.{Broadcast}
-use Rattle.cred_model.specs.Casts.{waits_in, is_open, without_waiter, waits_no_more}
+use Rattle.cred_model.specs.Casts.{waits_in, is_open, without_waiter, waits_no_more, SharesNone, WaitsNowhere}
 use Rattle.cred_model.proofs.Rising.{AllPairs-head, AllPairs-tail, Below}
-use Rattle.cred_plain.specs.Casts.{AreWaitedFor, SharesNone, WaitsNowhere}
+use Rattle.cred_plain.specs.Casts.{AreWaitedFor}
 
 abbrev IsOpen : Broadcast → Type 0
 IsOpen b = is_open b ≡ true

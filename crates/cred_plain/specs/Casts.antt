@@ -1,23 +1,15 @@
 -- The open broadcasts apart.
-use Rattle.std.specs.Prelude.{◌≡◌, ℕ, ◌<◌, true, false, List, [], ◌∷◌, ◌++◌, All}
+use Rattle.std.specs.Prelude.{◌≡◌, ℕ, ◌<◌, true, List, [], ◌∷◌, ◌++◌, All}
 use Rattle.std.specs.List.{AllPairs}
 use Rattle.cred_ids.specs.Ordered.{in_order}
 use Rattle.cred_model.specs.State.{Broadcast}
-use Rattle.cred_model.specs.Casts.{is_open, waits_in}
-
--- Nobody waits in both.
-abbrev pub SharesNone : Broadcast → Broadcast → Type 0
-SharesNone a b = (task : ℕ) → waits_in task a ≡ true → waits_in task b ≡ false
+use Rattle.cred_model.specs.Casts.{is_open, SharesNone}
 
 -- No task waits in two. In each somebody waits: those tasks in rising order, none of them twice.
 pub record AreWaitedFor (casts : List Broadcast) : Type 0 where
   pub apart : AllPairs SharesNone casts
   pub rising : All (λ b. AllPairs (λ m n. m < n) b.waiting) casts
   pub some : All (λ b. is_open b ≡ true) casts
-
--- The task waits in none of them.
-abbrev pub WaitsNowhere : List Broadcast → ℕ → Type 0
-WaitsNowhere casts task = All (λ b. waits_in task b ≡ false) casts
 
 -- a broadcast in which one more waits
 abbrev pub joins : ℕ → Broadcast → Broadcast

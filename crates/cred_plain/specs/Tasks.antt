@@ -8,9 +8,9 @@ use Rattle.cred_event.specs.declared.event.Change.{Change}
 use Rattle.cred_event.specs.declared.event.Change.TheVariants.{Exec}
 use Rattle.cred_model.specs.State.{Task}
 use Rattle.cred_model.specs.Ends.{is_task, is_thread_of}
-use Rattle.cred_plain.specs.declared.task.Ending.{Ending}
-use Rattle.cred_plain.specs.declared.task.Ending.TheVariants.{Nobody, Process, Others}
-use Rattle.cred_plain.specs.declared.task.Ending.TheVariants as ending
+use Rattle.cred_plain.specs.declared.one_task.Ending.{Ending}
+use Rattle.cred_plain.specs.declared.one_task.Ending.TheVariants.{Nobody, Process, Others}
+use Rattle.cred_plain.specs.declared.one_task.Ending.TheVariants as ending
 
 -- another thread of the process than this one
 abbrev pub is_other_thread : ℕ → ℕ → Task → Bool

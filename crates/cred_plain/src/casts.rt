@@ -6,8 +6,8 @@ ghost use Rattle.std.specs.Option.{IsSomeAnd, option_map};
 ghost use Rattle.cred_event.specs.declared.answer.Answer.TheVariants.{Busy};
 ghost use Rattle.cred_ids.specs.Ordered.{in_order};
 ghost use Rattle.cred_model.specs.Casts.{is_open, not_busy, waits_in, waits_no_more, with_cast};
-ghost use Rattle.cred_model.specs.Casts.{dropped, joined, without_waiter};
-ghost use Rattle.cred_plain.specs.Casts.{AreWaitedFor, SharesNone};
+ghost use Rattle.cred_model.specs.Casts.{dropped, joined, without_waiter, SharesNone};
+ghost use Rattle.cred_plain.specs.Casts.{AreWaitedFor};
 
 use cred_ids::NoMemory;
 use cred_record::IdCall;

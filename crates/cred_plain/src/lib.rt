@@ -1,20 +1,21 @@
-//! The tables of the value machine: credentials by number, tasks, labels, broadcasts, open files,
-//! and what refers to what. They are plain lists: what is looked for in one is found by going
-//! through it, and nothing is counted.
+//! The tables of `cred_machine`: plain lists that are searched, with no count. Read it as part of
+//! it.
+//!
+//! They have credentials by number, tasks, labels, broadcasts, open files, and what refers to what.
 #![tactic(auto)]
 
 pub mod casts;
 mod creds;
 pub mod files;
 pub mod labels;
+mod one_task;
 mod references;
-mod task;
 mod tasks;
 
 pub use casts::Cast;
 pub use creds::{Creds, Numbered};
 pub use files::OpenFile;
 pub use labels::{Changed, Hold, Prepared};
+pub use one_task::{Ending, Task};
 pub use references::References;
-pub use task::{Ending, Task};
 pub use tasks::Tasks;

@@ -6,7 +6,7 @@ ghost use Rattle.cred_plain.specs.References.{is_among, is_named, is_used, refer
 
 use crate::files::OpenFile;
 use crate::labels::{Hold, Prepared};
-use crate::task::Task;
+use crate::one_task::Task;
 
 /// What refers to credentials by their numbers: the live tasks, the open files, the holds and the
 /// prepared labels, and the numbers that were given up since the last sweep.

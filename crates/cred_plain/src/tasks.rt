@@ -9,7 +9,7 @@ ghost use Rattle.cred_model.specs.Ends.{is_thread_of, left_by, survivors};
 ghost use Rattle.cred_model.specs.Moves.{with_current, with_overrides};
 ghost use Rattle.cred_plain.specs.Tasks.{ends_by, is_other_thread, others_in, IsTaskAt, OfOneTask};
 
-use crate::task::{Ending, Task};
+use crate::one_task::{Ending, Task};
 use cred_ids::{NoMemory, limits};
 use std::alloc::Global;
 use std::marker::Model;

@@ -28,10 +28,13 @@ module _ (f : Task → Task) (leaves : LeavesPlace f) where
 
   members_step : (p : ℕ) (t : Task) (ts : List Task) → members (map f ts) p ≡ members ts p → members (map f (t ∷ ts)) p ≡ members (t ∷ ts) p
   members_step p t ts rest =
-      ap (λ (b : Bool). numbers (cond b (f t ∷ filter (is_thread_of p) (map f ts)) (filter (is_thread_of p) (map f ts)))) (ap (λ (n : ℕ). n == p) (leaves.process t))
+      ap (λ (b : Bool). numbers (cond b (f t ∷ filter (is_thread_of p) (map f ts)) (filter (is_thread_of p) (map f ts))))
+      (ap (λ (n : ℕ). n == p) (leaves.process t))
       ∙ at (t.process == p)
     where
-      at : (b : Bool) → numbers (cond b (f t ∷ filter (is_thread_of p) (map f ts)) (filter (is_thread_of p) (map f ts))) ≡ numbers (cond b (t ∷ filter (is_thread_of p) ts) (filter (is_thread_of p) ts))
+      at : (b : Bool)
+          → numbers (cond b (f t ∷ filter (is_thread_of p) (map f ts)) (filter (is_thread_of p) (map f ts)))
+          ≡ numbers (cond b (t ∷ filter (is_thread_of p) ts) (filter (is_thread_of p) ts))
       at true = λ i. leaves.number t i ∷ rest i
       at false = rest
 

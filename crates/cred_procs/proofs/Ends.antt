@@ -1,6 +1,7 @@
 -- What is left of the tasks, and of the threads that are kept of each process, when a task ends or
 -- is created.
-use Rattle.std.proofs.Common.{◌≡◌, ℕ, ◌<◌, ◌≤◌, ◌==◌, Bool, true, false, not, cond, List, [], ◌∷◌, ◌++◌, filter, find, is_some, length, map, nat_eq, Some, refl, sym, ap, ◌∙◌, arith, append-nil, length-append}
+use Rattle.std.proofs.Common.{◌≡◌, ℕ, ◌<◌, ◌≤◌, ◌==◌, Bool, true, false, not, cond, List, [], ◌∷◌, ◌++◌, filter, find, is_some, length, map, nat_eq, Some, refl}
+use Rattle.std.proofs.Common.{sym, ap, ◌∙◌, arith, append-nil, length-append}
 use Rattle.std.specs.List.{IsDistinct, AllByRecursion}
 use Rattle.std.proofs.lemmas.Bool.Decides.{nat_tests}
 use Rattle.std.proofs.lemmas.List.{map-append}
@@ -42,11 +43,15 @@ module _ (task : ℕ) where
           rest ∙ sym (ap (λ (c : Bool). cond (not c) (t.number ∷ filter is_other (members ts p)) (filter is_other (members ts p))) ended)
       step true false ended apart rest = rest
       step false true stays in_it rest =
-          ap (λ (c : Bool). numbers (cond c (t ∷ filter (is_thread_of p) (survivors (is_task task) ts)) (filter (is_thread_of p) (survivors (is_task task) ts)))) in_it
+          ap
+          (λ (c : Bool). numbers (cond c (t ∷ filter (is_thread_of p) (survivors (is_task task) ts)) (filter (is_thread_of p) (survivors (is_task task) ts))))
+          in_it
           ∙ ap (λ (ns : List ℕ). t.number ∷ ns) rest
           ∙ sym (ap (λ (c : Bool). cond (not c) (t.number ∷ filter is_other (members ts p)) (filter is_other (members ts p))) stays)
       step false false stays apart rest =
-          ap (λ (c : Bool). numbers (cond c (t ∷ filter (is_thread_of p) (survivors (is_task task) ts)) (filter (is_thread_of p) (survivors (is_task task) ts)))) apart ∙ rest
+          ap
+          (λ (c : Bool). numbers (cond c (t ∷ filter (is_thread_of p) (survivors (is_task task) ts)) (filter (is_thread_of p) (survivors (is_task task) ts))))
+          apart ∙ rest
 
   -- no other task has the number of the first
   none_left : (k : ℕ) (ts : List Task) → (k == task) ≡ true → AllByRecursion (λ n. nat_eq k n ≡ false) (numbers ts) → survivors (is_task task) ts ≡ ts
@@ -72,9 +77,11 @@ module _ (task : ℕ) where
           let here : (t.process == p) ≡ false = ap (λ (u : Task). u.process == p) is ∙ apart in
           ap (λ (us : List Task). members us p) (none_left t.number ts same distinct.0)
           ∙ sym (ap (λ (b : Bool). numbers (cond b (t ∷ filter (is_thread_of p) ts) (filter (is_thread_of p) ts))) here)
-      step false other later rest = with_head (t.process == p) t (filter (is_thread_of p) (survivors (is_task task) ts)) (filter (is_thread_of p) ts) (rest later)
+      step false other later rest =
+          with_head (t.process == p) t (filter (is_thread_of p) (survivors (is_task task) ts)) (filter (is_thread_of p) ts) (rest later)
 
-  pub kept_survivors : (ended : Task) (ts : List Task) (before after : Processes) → AreGrouped ts before → IsDistinct nat_eq (numbers (survivors (is_task task) ts))
+  pub kept_survivors : (ended : Task) (ts : List Task) (before after : Processes) → AreGrouped ts before
+      → IsDistinct nat_eq (numbers (survivors (is_task task) ts))
       → task_in ts task ≡ Some ended
       → ((p : ℕ) → threads_at after p ≡ cond (p == ended.process) (filter is_other (threads_at before p)) (threads_at before p))
       → AreGrouped (survivors (is_task task) ts) after
@@ -87,7 +94,8 @@ module _ (task : ℕ) where
     grouped = λ p. threads p ∙ grouped p (p == ended.process) refl;
   }
     where
-      grouped : (p : ℕ) (b : Bool) → (p == ended.process) ≡ b → cond b (filter is_other (threads_at before p)) (threads_at before p) ≡ members (survivors (is_task task) ts) p
+      grouped : (p : ℕ) (b : Bool) → (p == ended.process) ≡ b
+          → cond b (filter is_other (threads_at before p)) (threads_at before p) ≡ members (survivors (is_task task) ts) p
       grouped p true same = ap (filter is_other) (kept.grouped p) ∙ sym (members-survivors p ts)
       grouped p false other = kept.grouped p ∙ sym (members-other p ended ts found kept.sound.apart (flipped p ended.process false other))
 

@@ -46,7 +46,8 @@ module _ (task : ℕ) where
   pub survivors-none : (es : List (ℕ × Thread)) → NonePasses (nat_eq task) es → survivors (is_task task) (tasks_of es) ≡ tasks_of es
   survivors-none [] none = refl
   survivors-none (e ∷ es) none =
-      ap (λ (b : Bool). cond (not b) (task_as e.0 e.1 ∷ survivors (is_task task) (tasks_of es)) (survivors (is_task task) (tasks_of es))) (test_sym e.0 task ∙ none.0)
+      ap (λ (b : Bool). cond (not b) (task_as e.0 e.1 ∷ survivors (is_task task) (tasks_of es)) (survivors (is_task task) (tasks_of es)))
+      (test_sym e.0 task ∙ none.0)
       ∙ ap (λ (ts : List Task). task_as e.0 e.1 ∷ ts) (survivors-none es none.1)
 
   removed_at : (e : ℕ × Thread) (es : List (ℕ × Thread)) (test : Bool) → nat_eq task e.0 ≡ test
@@ -58,7 +59,8 @@ module _ (task : ℕ) where
   removed_at e es false is last rest = ap (λ (ts : List Task). task_as e.0 e.1 ∷ ts) rest
 
   -- Only one task has the number, so that taking its entry out leaves the tasks without it.
-  pub remove_entry-tasks_of : (es : List (ℕ × Thread)) → IsDistinct nat_eq (keys_of es) → tasks_of (remove_entry (nat_eq task) es) ≡ survivors (is_task task) (tasks_of es)
+  pub remove_entry-tasks_of : (es : List (ℕ × Thread)) → IsDistinct nat_eq (keys_of es)
+      → tasks_of (remove_entry (nat_eq task) es) ≡ survivors (is_task task) (tasks_of es)
   unfolding IsDistinct
   remove_entry-tasks_of [] distinct = refl
   remove_entry-tasks_of (e ∷ es) distinct =

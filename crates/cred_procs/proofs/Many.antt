@@ -1,5 +1,6 @@
 -- Tasks that end one after another, in the order in which they were created.
-use Rattle.std.proofs.Common.{◌≡◌, ℕ, ◌+◌, ◌<◌, ◌≤◌, ◌==◌, Bool, true, false, not, ◌&&◌, ◌||◌, cond, List, [], ◌∷◌, ◌++◌, filter, flat_map, get_or, length, map, nat_eq, take, Some, refl, sym, ap, ◌∙◌, arith}
+use Rattle.std.proofs.Common.{◌≡◌, ℕ, ◌+◌, ◌<◌, ◌≤◌, ◌==◌, Bool, true, false, not, ◌&&◌, ◌||◌, cond, List, [], ◌∷◌, ◌++◌, filter, flat_map, get_or, length, map}
+use Rattle.std.proofs.Common.{nat_eq, take, Some, refl, sym, ap, ◌∙◌, arith}
 use Rattle.std.specs.List.{IsDistinct, AllByRecursion, list_any}
 use Rattle.std.specs.Option.{option_map_or, IsSome}
 use Rattle.std.proofs.lemmas.Bool.{eqb-true, eq-eqb}
@@ -52,7 +53,8 @@ without_all-push ns n (t ∷ ts) =
         ap (λ (us : List Task). t ∷ us) rest
         ∙ sym (ap (λ (c : Bool). cond (not c) (t ∷ survivors (is_task n) (without_all ts ns)) (survivors (is_task n) (without_all ts ns))) is)
 
-pub without_all-more : (ns : List ℕ) (i d : ℕ) (ts : List Task) → i < length ns → without_all ts (take (i + 1) ns) ≡ survivors (is_task (get_or ns i d)) (without_all ts (take i ns))
+pub without_all-more : (ns : List ℕ) (i d : ℕ) (ts : List Task) → i < length ns
+    → without_all ts (take (i + 1) ns) ≡ survivors (is_task (get_or ns i d)) (without_all ts (take i ns))
 without_all-more ns i d ts within = ap (without_all ts) (take_more ns i d within) ∙ without_all-push (take i ns) (get_or ns i d) ts
 
 -- ---- the tasks that pass a test
@@ -80,12 +82,15 @@ numbers-others t ts (n ∷ ns) others =
 pub numbers-those : (passes : Task → Bool) (ts : List Task) → IsDistinct nat_eq (numbers ts) → numbers_in ts (those passes ts) ≡ left_by passes ts
 unfolding IsDistinct
 numbers-those passes [] distinct = refl
-numbers-those passes (t ∷ ts) distinct = step (passes t) (numbers-others t ts (those passes ts) (others-those passes t.number ts distinct.0) ∙ numbers-those passes ts distinct.1)
+numbers-those passes (t ∷ ts) distinct =
+    step (passes t) (numbers-others t ts (those passes ts) (others-those passes t.number ts distinct.0) ∙ numbers-those passes ts distinct.1)
   where
     step : (b : Bool) → numbers_in (t ∷ ts) (those passes ts) ≡ left_by passes ts
-        → numbers_in (t ∷ ts) (numbers (cond b (t ∷ filter passes ts) (filter passes ts))) ≡ flat_map numbers_of (cond b (t ∷ filter passes ts) (filter passes ts))
+        → numbers_in (t ∷ ts) (numbers (cond b (t ∷ filter passes ts) (filter passes ts)))
+        ≡ flat_map numbers_of (cond b (t ∷ filter passes ts) (filter passes ts))
     step true rest =
-        ap (λ (b : Bool). option_map_or numbers_of (cond b (Some t) (task_in ts t.number)) [] ++ numbers_in (t ∷ ts) (those passes ts)) (eq-eqb t.number t.number refl)
+        ap (λ (b : Bool). option_map_or numbers_of (cond b (Some t) (task_in ts t.number)) [] ++ numbers_in (t ∷ ts) (those passes ts))
+        (eq-eqb t.number t.number refl)
         ∙ ap (λ (ns : List ℕ). numbers_of t ++ ns) rest
     step false rest = rest
 
@@ -155,7 +160,16 @@ those-beside owner (t ∷ ts) = step (t.process == owner.process) (t.number == o
         ≡ filter (is_other owner.number) (numbers (cond a (t ∷ filter (is_thread_of owner.process) ts) (filter (is_thread_of owner.process) ts)))
     step false b is rest = rest
     step true true is rest =
-        rest ∙ sym (ap (λ (c : Bool). cond (not c) (t.number ∷ filter (is_other owner.number) (members ts owner.process)) (filter (is_other owner.number) (members ts owner.process))) is)
+        rest
+        ∙ sym
+        (ap
+        (λ (c : Bool). cond (not c) (t.number ∷ filter (is_other owner.number) (members ts owner.process))
+        (filter (is_other owner.number) (members ts owner.process)))
+        is)
     step true false is rest =
         ap (λ (ns : List ℕ). t.number ∷ ns) rest
-        ∙ sym (ap (λ (c : Bool). cond (not c) (t.number ∷ filter (is_other owner.number) (members ts owner.process)) (filter (is_other owner.number) (members ts owner.process))) is)
+        ∙ sym
+        (ap
+        (λ (c : Bool). cond (not c) (t.number ∷ filter (is_other owner.number) (members ts owner.process))
+        (filter (is_other owner.number) (members ts owner.process)))
+        is)

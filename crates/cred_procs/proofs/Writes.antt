@@ -1,5 +1,6 @@
 -- What is left when the entry of one task is written.
-use Rattle.std.proofs.Common.{◌≡◌, ℕ, ◌≤◌, ◌==◌, Bool, true, false, cond, List, [], ◌∷◌, All, length, map, Option, None, Some, MutBor, nat_eq, is_some, refl, sym, ap, subst, ◌∙◌}
+use Rattle.std.proofs.Common.{◌≡◌, ℕ, ◌≤◌, ◌==◌, Bool, true, false, cond, List, [], ◌∷◌, All, length, map, Option, None, Some, MutBor, nat_eq, is_some, refl}
+use Rattle.std.proofs.Common.{sym, ap, subst, ◌∙◌}
 use Rattle.std.specs.List.{IsDistinct, AllByRecursion}
 use Rattle.std.specs.Map.{keys_of, lookup, set_value}
 use Rattle.std.specs.Option.{IfSome, IsSome, option_copied_mut, option_map, option_map_or}
@@ -7,10 +8,11 @@ use Rattle.std.proofs.lemmas.List.Elements.{recursion_from_All}
 use Rattle.std.proofs.lemmas.Map.Steps.{set_value_same}
 use Rattle.cred_ids.specs.Limits.{DEPTH}
 use Rattle.cred_model.specs.State.{Task}
+use Rattle.cred_model.specs.Moves.{with_overrides}
 use Rattle.cred_procs.specs.declared.processes.Processes.{Processes}
 use Rattle.cred_procs.specs.declared.thread.Thread.{Thread}
 use Rattle.cred_procs.specs.Kept.{task_as, tasks_of, AreGrouped}
-use Rattle.cred_procs.specs.Tasks.{task_in, overrides_of, with_overrides}
+use Rattle.cred_procs.specs.Tasks.{task_in, overrides_of}
 use Rattle.cred_procs.proofs.Entries.{task_in-tasks_of, set_value-tasks_of, changed}
 use Rattle.cred_procs.proofs.Changes.{LeavesPlace, IsShallow, AreTasks-map, members-map}
 

@@ -1,10 +1,10 @@
 -- The live tasks, in the order in which they were created: what is found among them, and what is
 -- left when one is created, changes its credentials or ends (credentials(7), nptl(7)).
-use Rattle.std.specs.Prelude.{◌≡◌, ℕ, ◌==◌, ◌≤◌, Bool, nat_eq, List, [], ◌∷◌, ◌++◌, All, filter}
-use Rattle.std.specs.Prelude.{find, is_some, length, map, slice_get, if◌then◌else◌}
+use Rattle.std.specs.Prelude.{◌≡◌, ℕ, ◌≤◌, Bool, nat_eq, List, [], ◌∷◌, ◌++◌, All, filter}
+use Rattle.std.specs.Prelude.{find, is_some, length, map}
 use Rattle.std.specs.declared.option.Option.{Option}
 use Rattle.std.specs.List.{IsDistinct}
-use Rattle.std.specs.Option.{option_map_or, unwrap_or}
+use Rattle.std.specs.Option.{option_map_or}
 use Rattle.cred_ids.specs.Ordered.{in_order}
 use Rattle.cred_ids.specs.Limits.{TASKS, DEPTH}
 use Rattle.cred_model.specs.State.{Task}
@@ -21,11 +21,6 @@ pub record AreTasks (tasks : List Task) : Type 0 where
 -- the task of this number, if it is alive
 abbrev pub task_in : List Task → ℕ → Option Task
 task_in tasks task = find (is_task task) tasks
-
--- The number of the credential that a task acts with: of its newest override, and where it has
--- none, of its current credential.
-abbrev pub acting : Task → ℕ
-acting t = unwrap_or (slice_get t.overrides 0) t.current
 
 -- those tasks that pass a test, in the order in which they were created
 abbrev pub those : (Task → Bool) → List Task → List ℕ
@@ -75,10 +70,3 @@ forked tasks task child process =
 -- the numbers of a task's overrides, the newest first
 abbrev pub overrides_of : List Task → ℕ → List ℕ
 overrides_of tasks task = option_map_or (λ t. t.overrides) (task_in tasks task) []
-
--- the tasks, where this one has these overrides
-abbrev pub overridden : ℕ → List ℕ → Task → Task
-overridden task overrides t = if t.number == task then record t { overrides = overrides } else t
-
-abbrev pub with_overrides : List Task → ℕ → List ℕ → List Task
-with_overrides tasks task overrides = map (overridden task overrides) tasks

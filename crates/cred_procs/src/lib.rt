@@ -1,6 +1,7 @@
-//! The tasks and the processes of a run. A task has the number of its current credential and
-//! those of its overrides. Tasks are found by their numbers, and the threads of a process by its
-//! own: neither is searched for.
+//! The tasks and the processes that live, with each task's current credential and overrides.
+//!
+//! Tasks are found by their numbers, and the threads of a process by its own: neither is searched
+//! for.
 #![tactic(auto)]
 
 pub mod lists;

@@ -5,88 +5,51 @@ use cred_ids::NoMemory;
 use std::alloc::Global;
 use std::marker::Model;
 
-/// The numbers of tasks. Contracts see their list.
-#[derive(Drop, Debug)]
-pub struct TaskList {
-    tasks: Vec<u32>,
+/// A list of numbers. Contracts see the list.
+#[derive(Drop)]
+pub struct Numbers<T> {
+    items: Vec<T>,
 }
 
-impl Model for TaskList {
-    ghost use Rattle.std.specs.Prelude.{ℕ, List};
+/// The numbers of tasks.
+pub type TaskList = Numbers<u32>;
 
-    ghost Value = { List ℕ };
+/// The numbers of credentials.
+pub type CredNumbers = Numbers<u64>;
 
-    ghost view = { λ l. l.tasks.items };
+impl<T> Model for Numbers<T> {
+    ghost use Rattle.std.specs.Prelude.{List};
+
+    ghost Value = { List T };
+
+    ghost view = { λ l. l.items.items };
 }
 
-impl TaskList {
-    /// The list of these tasks.
-    ///
-    /// # Errors
-    ///
-    /// `NoMemory` if an allocation fails.
-    pub fn of(alloc: Global, items: &[u32]) -> Result<TaskList, NoMemory>
-        ensures { IfOk result (λ l. l ≡ items.now) }
-    {
-        Ok(TaskList {
-            tasks: Vec::from_slice(alloc, items)?,
-        })
-    }
-
-    /// The list of these tasks, in the memory that they stand in.
-    pub fn from_vec(tasks: Vec<u32>) -> TaskList
-        ensures { result ≡ tasks.items }
-    {
-        TaskList { tasks }
-    }
-
-    /// Its tasks.
-    pub fn items(&self) -> &[u32]
-        ensures { result.now ≡ self.now }
-    {
-        self.tasks.as_slice()
-    }
-}
-
-/// The numbers of credentials. Contracts see their list.
-#[derive(Drop, Debug)]
-pub struct CredNumbers {
-    numbers: Vec<u64>,
-}
-
-impl Model for CredNumbers {
-    ghost use Rattle.std.specs.Prelude.{ℕ, List};
-
-    ghost Value = { List ℕ };
-
-    ghost view = { λ l. l.numbers.items };
-}
-
-impl CredNumbers {
+impl<T: Copy + Drop> Numbers<T> {
     /// The list of these numbers.
     ///
     /// # Errors
     ///
     /// `NoMemory` if an allocation fails.
-    pub fn of(alloc: Global, items: &[u64]) -> Result<CredNumbers, NoMemory>
+    pub fn of(alloc: Global, items: &[T]) -> Result<Numbers<T>, NoMemory>
         ensures { IfOk result (λ l. l ≡ items.now) }
     {
-        Ok(CredNumbers {
-            numbers: Vec::from_slice(alloc, items)?,
+        Ok(Numbers {
+            items: Vec::from_slice(alloc, items)?,
         })
     }
 
     /// The list of these numbers, in the memory that they stand in.
-    pub fn from_vec(numbers: Vec<u64>) -> CredNumbers
-        ensures { result ≡ numbers.items }
+    pub fn from_vec(items: Vec<T>) -> Numbers<T>
+        ensures { result ≡ items.items }
     {
-        CredNumbers { numbers }
+        Numbers { items }
     }
 
     /// Its numbers.
-    pub fn items(&self) -> &[u64]
+    pub fn items(&self) -> &[T]
         ensures { result.now ≡ self.now }
     {
-        self.numbers.as_slice()
+        self.items.as_slice()
     }
 }

@@ -5,12 +5,11 @@ ghost use Rattle.std.specs.Prelude.{OnErr, if◌then◌else◌};
 ghost use Rattle.std.specs.Option.{option_map, IsSome};
 ghost use Rattle.cred_ids.specs.Limits.{TASKS, DEPTH};
 ghost use Rattle.cred_model.specs.Ends.{is_task, is_thread_of, is_beside, survivors, left_by};
-ghost use Rattle.cred_model.specs.State.{Task};
-ghost use Rattle.cred_model.specs.Moves.{first_task};
+ghost use Rattle.cred_model.specs.State.{Task, acting};
+ghost use Rattle.cred_model.specs.Moves.{first_task, with_overrides};
 ghost use Rattle.cred_procs.specs.Kept.{task_as};
-ghost use Rattle.cred_procs.specs.Tasks.{AreTasks, EndsTasks, task_in, acting, those, threads_of};
+ghost use Rattle.cred_procs.specs.Tasks.{AreTasks, EndsTasks, task_in, those, threads_of};
 ghost use Rattle.cred_procs.specs.Tasks.{has_process, spawned, forked, overrides_of};
-ghost use Rattle.cred_procs.specs.Tasks.{with_overrides};
 
 mod places;
 
@@ -50,7 +49,7 @@ impl Model for Procs {
 /// The tasks that ended, in the order in which they were created, and the numbers that they
 /// referred to, task by task: the current credential's first and then those of the overrides, the
 /// newest first. A number stands there once for each place that referred to it.
-#[derive(Drop, Debug)]
+#[derive(Drop)]
 pub struct Ended {
     pub tasks: TaskList,
     pub numbers: CredNumbers,

@@ -4,5 +4,6 @@ use Rattle.cred_said.specs.Statuses.{code_of}
 use Rattle.cred_said.specs.declared.status.Status.{Status}
 use Rattle.cred_program.specs.Runs.{EndsWith, RunsOnce, Stream}
 
-pub ends : (words : List (List ℕ)) (answer : Status) (code : ℕ) (source sink : Stream) (handed : Bool) (unread unwritten : Type 0) → code ≡ code_of answer → RunsOnce words answer source sink handed unread unwritten → EndsWith words code source sink handed unread unwritten
+pub ends : (words : List (List ℕ)) (answer : Status) (code : ℕ) (source sink : Stream) (handed : Bool) (unread unwritten : Type 0) → code ≡ code_of answer
+    → RunsOnce words answer source sink handed unread unwritten → EndsWith words code source sink handed unread unwritten
 ends words answer code source sink handed unread unwritten is once = record { answer = answer; code_is = is; once = once }

@@ -5,7 +5,8 @@ use Rattle.cred_said.specs.Leaves.{IsReading}
 use Rattle.cred_said.specs.declared.status.Status.{Status}
 use Rattle.cred_said.specs.declared.status.Status.TheVariants as status
 
-pub unread : (limit : ℕ) (answer : Status) (left : Option (List ℕ)) (faults : ℕ) → (answer ≡ status.ReadFault → ⊥) → IsReading limit answer left left faults faults
+pub unread : (limit : ℕ) (answer : Status) (left : Option (List ℕ)) (faults : ℕ) → (answer ≡ status.ReadFault → ⊥)
+    → IsReading limit answer left left faults faults
 unread limit answer left faults other = record {
   cause = record { rose = λ fault. absurd (other fault); stayed = λ none. refl; later = omega arith };
   fault = λ fault. absurd (other fault);

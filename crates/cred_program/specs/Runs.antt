@@ -1,5 +1,5 @@
 -- What one run of the program leaves: every clause of the top call, for the process that makes one.
-use Rattle.std.specs.Prelude.{◌≡◌, ◌⊎◌, ℕ, Bool, List, Some, None, Result, Ok, Err}
+use Rattle.std.specs.Prelude.{◌≡◌, ◌⊎◌, ℕ, Bool, List, Some, None}
 use Rattle.std.specs.declared.option.Option.{Option}
 use Rattle.cred_model.specs.Journal.{IsLegal, IsSequence}
 use Rattle.cred_inspect.specs.Auditing.{LeavesVerdict}
@@ -13,7 +13,6 @@ use Rattle.cred_said.specs.declared.status.Status.{Status}
 use Rattle.cred_said.specs.declared.status.Status.TheVariants as status
 use Rattle.cred_program.specs.Commands.{LeavesUsage, limit_of}
 use Rattle.cred_program.specs.Words.{command_of}
-use Rattle.cred_program.specs.declared.words.Command.{Command}
 use Rattle.cred_program.specs.declared.words.Command.TheVariants as command
 
 -- A source or a sink before and after: the bytes where it reports them, and its count of faults.

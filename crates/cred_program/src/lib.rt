@@ -1,4 +1,4 @@
-//! The program, over its words, its input and its output.
+//! The command line, and `credtrace`, the top call, whose contract is the theorem.
 #![tactic(auto)]
 
 mod process;

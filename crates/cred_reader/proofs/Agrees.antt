@@ -291,7 +291,7 @@ tell_agrees label (query.Bset cap) answer h = cap_agrees cap answer h
 tell_agrees label (query.AmbIs cap) answer h = cap_agrees cap answer h
 tell_agrees label (query.Check file want) answer h = check_agrees answer h
 
-change_agrees : (change : Change) (answer : Answer) → rows.may_change change answer ≡ true → agrees tells.Nothing answer ≡ true
+change_agrees : (change : Change) (answer : Answer) → rows.may_answer_change change answer ≡ true → agrees tells.Nothing answer ≡ true
 change_agrees (change.SetFs kind id) answer h = setfs_agrees answer h
 change_agrees (change.Adjust call) answer h = adjust_agrees call answer h
 change_agrees (change.Exec file) answer h = exec_agrees answer h

@@ -10,7 +10,7 @@ use Rattle.cred_event.specs.declared.answer.Told.TheVariants as told
 use Rattle.cred_event.specs.declared.answer.Answer.{Answer}
 use Rattle.cred_event.specs.declared.answer.Answer.TheVariants as answer
 use Rattle.cred_spelling.specs.Words as words
-use Rattle.cred_pen.specs.Numbers.{hexadecimal}
+use Rattle.cred_report.specs.Numbers.{hexadecimal}
 use Rattle.cred_reader.specs.declared.answers.Tells.{Tells}
 use Rattle.cred_reader.specs.declared.answers.Tells.TheVariants.{Nothing, Ids, Caps, Groups, Bits, Flag, File}
 use Rattle.cred_reader.specs.Answers as spec
@@ -24,7 +24,11 @@ use Rattle.cred_reader.proofs.Words.{spaced}
 use Rattle.cred_reader.proofs.WordsBack.{bits_back}
 use Rattle.cred_reader.proofs.FileWordsBack.{mode_word, mode_spaced, mode_back, mode_plain}
 use Rattle.cred_reader.proofs.Back.{bare, with_word, with_two}
-use Rattle.cred_reader.proofs.RefusalsBack.{AnswerBack, eperm_back, einval_back, eacces_back, ebadf_back, no_task_back, no_hold_back, no_prepared_back, no_broadcast_back, busy_back, exists_task_back, exists_process_back, exists_label_back, exists_file_back, exists_broadcast_back, overridden_back, not_overridden_back, too_deep_back, stale_back, too_many_tasks_back, too_many_files_back, too_many_holds_back, too_many_prepared_back, table_full_back, aborted_perm_back, aborted_full_back}
+use Rattle.cred_reader.proofs.RefusalsBack.{AnswerBack, eperm_back, einval_back, eacces_back, ebadf_back, no_task_back, no_hold_back, no_prepared_back}
+use Rattle.cred_reader.proofs.RefusalsBack.{no_broadcast_back, busy_back, exists_task_back, exists_process_back, exists_label_back, exists_file_back}
+use Rattle.cred_reader.proofs.RefusalsBack.{exists_broadcast_back, overridden_back, not_overridden_back, too_deep_back, stale_back, too_many_tasks_back}
+use Rattle.cred_reader.proofs.RefusalsBack.{too_many_files_back, too_many_holds_back, too_many_prepared_back, table_full_back, aborted_perm_back}
+use Rattle.cred_reader.proofs.RefusalsBack.{aborted_full_back}
 
 bits_long : (bits : ℕ) → bits < 2 ^ 8 → IsLong bits
 bits_long bits h = omega arith
@@ -42,7 +46,8 @@ ids_parts : (o b p q r s t u v w : List ℕ)
     ≡ o ++ (b ++ (p ++ (b ++ (q ++ (b ++ (r ++ (b ++ (s ++ (b ++ (t ++ (b ++ (u ++ (b ++ (v ++ (b ++ w)))))))))))))))
 ids_parts o b p q r s t u v w = simp append_assoc
 
-caps_parts : (o b p q r s t : List ℕ) → o ++ ((b ++ p) ++ (b ++ q) ++ (b ++ r) ++ (b ++ s) ++ (b ++ t)) ≡ o ++ (b ++ (p ++ (b ++ (q ++ (b ++ (r ++ (b ++ (s ++ (b ++ t)))))))))
+caps_parts : (o b p q r s t : List ℕ)
+    → o ++ ((b ++ p) ++ (b ++ q) ++ (b ++ r) ++ (b ++ s) ++ (b ++ t)) ≡ o ++ (b ++ (p ++ (b ++ (q ++ (b ++ (r ++ (b ++ (s ++ (b ++ t)))))))))
 caps_parts o b p q r s t = simp append_assoc
 
 done_back : FitsAnswer (answer.Done) → AnswerBack Nothing (answer.Done)
@@ -67,14 +72,40 @@ was_back previous fits =
     with_two (codes "ok") (codes "was") (decimal previous) (simp append-nil)
     refl refl (decimal_plain previous (long_number previous (id_number previous fits))) (rw (id_back previous fits) refl)
 
-executed_back : (cred : ℕ) (slot : ℕ) (ended : ℕ) (gains : Gains) → FitsAnswer (answer.Executed cred slot ended gains) → AnswerBack Nothing (answer.Executed cred slot ended gains)
+executed_back : (cred : ℕ) (slot : ℕ) (ended : ℕ) (gains : Gains) → FitsAnswer (answer.Executed cred slot ended gains)
+    → AnswerBack Nothing (answer.Executed cred slot ended gains)
 unfolding spec.read_answer spec.ok_words spec.plain spec.longer spec.longest spec.acted words.three_of
 executed_back cred slot ended gains fits = record {
   first = codes "ok";
-  rest = (codes "c" ++ decimal cred) ∷ (codes "s" ++ decimal slot) ∷ codes "ended" ∷ decimal ended ∷ codes "gain" ∷ (hexadecimal gains.file) ∷ (hexadecimal gains.inherit) ∷ (hexadecimal gains.root) ∷ [];
-  spaced = rw append-nil (ap (λ (text : List ℕ). 32 ∷ text) (executed_parts (codes "ok") (codes " c") (decimal cred) (codes " s") (decimal slot) (codes " ended ") (decimal ended) (codes " gain") (codes " ") (hexadecimal gains.file) (hexadecimal gains.inherit) (hexadecimal gains.root)));
-  plain = rw (decimal_inner cred fits.0, decimal_inner slot (long_number slot fits.1), decimal_plain ended (long_number ended fits.2), set_plain gains.file fits.3.0, set_plain gains.inherit fits.3.1, set_plain gains.root fits.3.2) refl;
-  read = rw (long_back cred fits.0, number_back slot fits.1, number_back ended fits.2, set_back gains.file fits.3.0, set_back gains.inherit fits.3.1, set_back gains.root fits.3.2) refl;
+  rest =
+      (codes "c" ++ decimal cred) ∷ (codes "s" ++ decimal slot) ∷ codes "ended" ∷ decimal ended ∷ codes "gain" ∷ (hexadecimal gains.file)
+      ∷ (hexadecimal gains.inherit) ∷ (hexadecimal gains.root) ∷ [];
+  spaced =
+      rw append-nil
+      (ap (λ (text : List ℕ). 32 ∷ text)
+      (executed_parts (codes "ok") (codes " c") (decimal cred) (codes " s") (decimal slot) (codes " ended ") (decimal ended) (codes " gain") (codes " ")
+      (hexadecimal gains.file) (hexadecimal gains.inherit) (hexadecimal gains.root)));
+  plain =
+      rw (
+        decimal_inner cred fits.0,
+        decimal_inner slot (long_number slot fits.1),
+        decimal_plain ended (long_number ended fits.2),
+        set_plain gains.file fits.3.0,
+        set_plain gains.inherit fits.3.1,
+        set_plain gains.root fits.3.2,
+      )
+      refl;
+  read =
+      rw (
+        long_back cred fits.0,
+        number_back slot fits.1,
+        number_back ended fits.2,
+        set_back gains.file fits.3.0,
+        set_back gains.inherit fits.3.1,
+        set_back
+            gains.root fits.3.2,
+      )
+      refl;
 }
 
 began_back : (cred : ℕ) (slot : ℕ) (left : ℕ) → FitsAnswer (answer.Began cred slot left) → AnswerBack Nothing (answer.Began cred slot left)
@@ -92,8 +123,19 @@ unfolding spec.read_answer spec.ok_words spec.plain spec.longer spec.longest spe
 acted_back task cred slot left fits = record {
   first = codes "ok";
   rest = (codes "t" ++ decimal task) ∷ (codes "c" ++ decimal cred) ∷ (codes "s" ++ decimal slot) ∷ codes "left" ∷ decimal left ∷ [];
-  spaced = rw append-nil (ap (λ (text : List ℕ). 32 ∷ text) (acted_parts (codes "ok t") (decimal task) (codes " c") (decimal cred) (codes " s") (decimal slot) (codes " left ") (decimal left)));
-  plain = rw (decimal_inner task (long_number task fits.0), decimal_inner cred fits.1, decimal_inner slot (long_number slot fits.2), decimal_plain left (long_number left fits.3)) refl;
+  spaced =
+      rw append-nil
+      (ap (λ (text : List ℕ). 32 ∷ text)
+      (acted_parts (codes "ok t") (decimal task) (codes " c") (decimal cred) (codes " s") (decimal slot) (codes " left ") (decimal left)));
+  plain =
+      rw (
+        decimal_inner task (long_number task fits.0),
+        decimal_inner cred fits.1,
+        decimal_inner slot (long_number slot fits.2),
+        decimal_plain left
+            (long_number left fits.3),
+      )
+      refl;
   read = rw (number_back task fits.0, long_back cred fits.1, number_back slot fits.2, number_back left fits.3) refl;
 }
 
@@ -101,18 +143,53 @@ ids_told : (uid : Ids4) (gid : Ids4) → FitsAnswer (answer.Told (told.Ids uid g
 unfolding spec.read_answer spec.ok_words spec.ids_told words.two_of words.three_of words.five_of
 ids_told uid gid fits = record {
   first = codes "ok";
-  rest = decimal uid.real ∷ decimal uid.effective ∷ decimal uid.saved ∷ decimal uid.fs ∷ decimal gid.real ∷ decimal gid.effective ∷ decimal gid.saved ∷ decimal gid.fs ∷ [];
-  spaced = rw append-nil (ap (λ (text : List ℕ). 32 ∷ text) (ids_parts (codes "ok") (codes " ") (decimal uid.real) (decimal uid.effective) (decimal uid.saved) (decimal uid.fs) (decimal gid.real) (decimal gid.effective) (decimal gid.saved) (decimal gid.fs)));
-  plain = rw (decimal_plain uid.real (long_number uid.real (id_number uid.real fits.0.0)), decimal_plain uid.effective (long_number uid.effective (id_number uid.effective fits.0.1)), decimal_plain uid.saved (long_number uid.saved (id_number uid.saved fits.0.2)), decimal_plain uid.fs (long_number uid.fs (id_number uid.fs fits.0.3)), decimal_plain gid.real (long_number gid.real (id_number gid.real fits.1.0)), decimal_plain gid.effective (long_number gid.effective (id_number gid.effective fits.1.1)), decimal_plain gid.saved (long_number gid.saved (id_number gid.saved fits.1.2)), decimal_plain gid.fs (long_number gid.fs (id_number gid.fs fits.1.3))) refl;
-  read = rw (id_back uid.real fits.0.0, id_back uid.effective fits.0.1, id_back uid.saved fits.0.2, id_back uid.fs fits.0.3, id_back gid.real fits.1.0, id_back gid.effective fits.1.1, id_back gid.saved fits.1.2, id_back gid.fs fits.1.3) refl;
+  rest =
+      decimal uid.real ∷ decimal uid.effective ∷ decimal uid.saved ∷ decimal uid.fs ∷ decimal gid.real ∷ decimal gid.effective ∷ decimal gid.saved
+      ∷ decimal gid.fs ∷ [];
+  spaced =
+      rw append-nil
+      (ap (λ (text : List ℕ). 32 ∷ text)
+      (ids_parts (codes "ok") (codes " ") (decimal uid.real) (decimal uid.effective) (decimal uid.saved) (decimal uid.fs) (decimal gid.real)
+      (decimal gid.effective) (decimal gid.saved) (decimal gid.fs)));
+  plain =
+      rw (
+        decimal_plain uid.real (long_number uid.real (id_number uid.real fits.0.0)),
+        decimal_plain uid.effective
+            (long_number uid.effective (id_number uid.effective fits.0.1)),
+        decimal_plain uid.saved (long_number uid.saved (id_number uid.saved fits.0.2)),
+        decimal_plain uid.fs (long_number uid.fs (id_number uid.fs fits.0.3)),
+        decimal_plain gid.real (long_number gid.real (id_number gid.real fits.1.0)),
+        decimal_plain gid.effective (long_number gid.effective (id_number gid.effective fits.1.1)),
+        decimal_plain gid.saved
+            (long_number gid.saved (id_number gid.saved fits.1.2)),
+        decimal_plain gid.fs (long_number gid.fs (id_number gid.fs fits.1.3)),
+      )
+      refl;
+  read =
+      rw (
+        id_back uid.real fits.0.0,
+        id_back uid.effective fits.0.1,
+        id_back uid.saved fits.0.2,
+        id_back uid.fs fits.0.3,
+        id_back gid.real fits.1.0,
+        id_back
+            gid.effective fits.1.1,
+        id_back gid.saved fits.1.2,
+        id_back gid.fs fits.1.3,
+      )
+      refl;
 }
 
-caps_told : (perm : ℕ) (inh : ℕ) (eff : ℕ) (bound : ℕ) (amb : ℕ) → FitsAnswer (answer.Told (told.Caps perm inh eff bound amb)) → AnswerBack Caps (answer.Told (told.Caps perm inh eff bound amb))
+caps_told : (perm : ℕ) (inh : ℕ) (eff : ℕ) (bound : ℕ) (amb : ℕ) → FitsAnswer (answer.Told (told.Caps perm inh eff bound amb))
+    → AnswerBack Caps (answer.Told (told.Caps perm inh eff bound amb))
 unfolding spec.read_answer spec.ok_words words.two_of words.three_of words.five_of
 caps_told perm inh eff bound amb fits = record {
   first = codes "ok";
   rest = (hexadecimal perm) ∷ (hexadecimal inh) ∷ (hexadecimal eff) ∷ (hexadecimal bound) ∷ (hexadecimal amb) ∷ [];
-  spaced = rw append-nil (ap (λ (text : List ℕ). 32 ∷ text) (caps_parts (codes "ok") (codes " ") (hexadecimal perm) (hexadecimal inh) (hexadecimal eff) (hexadecimal bound) (hexadecimal amb)));
+  spaced =
+      rw append-nil
+      (ap (λ (text : List ℕ). 32 ∷ text)
+      (caps_parts (codes "ok") (codes " ") (hexadecimal perm) (hexadecimal inh) (hexadecimal eff) (hexadecimal bound) (hexadecimal amb)));
   plain = rw (set_plain perm fits.0, set_plain inh fits.1, set_plain eff fits.2, set_plain bound fits.3, set_plain amb fits.4) refl;
   read = rw (set_back perm fits.0, set_back inh fits.1, set_back eff fits.2, set_back bound fits.3, set_back amb fits.4) refl;
 }
@@ -141,23 +218,29 @@ unfolding spec.read_answer spec.ok_words kinds.flags
 flag_told false fits = with_word (codes "ok") (codes "0") refl refl refl
 flag_told true fits = with_word (codes "ok") (codes "1") refl refl refl
 
-file_words : (owner group mode flag : List ℕ) → 32 ∷ (codes "ok" ++ (codes " " ++ owner ++ codes " " ++ group ++ (32 ∷ mode) ++ (32 ∷ flag))) ≡ spaced (codes "ok" ∷ owner ∷ group ∷ mode ∷ flag ∷ [])
+file_words : (owner group mode flag : List ℕ)
+    → 32 ∷ (codes "ok" ++ (codes " " ++ owner ++ codes " " ++ group ++ (32 ∷ mode) ++ (32 ∷ flag))) ≡ spaced (codes "ok" ∷ owner ∷ group ∷ mode ∷ flag ∷ [])
 file_words owner group mode flag = simp (append_assoc, append-nil)
 
-file_told : (owner group mode : ℕ) (attr : Bool) → FitsAnswer (answer.Told (told.File owner group mode attr)) → AnswerBack File (answer.Told (told.File owner group mode attr))
+file_told : (owner group mode : ℕ) (attr : Bool) → FitsAnswer (answer.Told (told.File owner group mode attr))
+    → AnswerBack File (answer.Told (told.File owner group mode attr))
 unfolding spec.read_answer spec.ok_words spec.file_told words.two_of kinds.flags
 file_told owner group mode false fits = record {
   first = codes "ok";
   rest = decimal owner ∷ decimal group ∷ mode_word mode ∷ codes "0" ∷ [];
   spaced = rw (mode_spaced mode) (file_words (decimal owner) (decimal group) (mode_word mode) (codes "0"));
-  plain = rw (decimal_plain owner (long_number owner (id_number owner fits.0)), decimal_plain group (long_number group (id_number group fits.1)), mode_plain mode) refl;
+  plain =
+      rw (decimal_plain owner (long_number owner (id_number owner fits.0)), decimal_plain group (long_number group (id_number group fits.1)), mode_plain mode)
+      refl;
   read = rw (id_back owner fits.0, id_back group fits.1, mode_back mode fits.2) refl;
 }
 file_told owner group mode true fits = record {
   first = codes "ok";
   rest = decimal owner ∷ decimal group ∷ mode_word mode ∷ codes "1" ∷ [];
   spaced = rw (mode_spaced mode) (file_words (decimal owner) (decimal group) (mode_word mode) (codes "1"));
-  plain = rw (decimal_plain owner (long_number owner (id_number owner fits.0)), decimal_plain group (long_number group (id_number group fits.1)), mode_plain mode) refl;
+  plain =
+      rw (decimal_plain owner (long_number owner (id_number owner fits.0)), decimal_plain group (long_number group (id_number group fits.1)), mode_plain mode)
+      refl;
   read = rw (id_back owner fits.0, id_back group fits.1, mode_back mode fits.2) refl;
 }
 

@@ -7,8 +7,8 @@ use Rattle.cred_record.specs.declared.id_call.IdCall.TheVariants as call
 use Rattle.cred_model.specs.Script.{Script}
 use Rattle.cred_spelling.specs.Names as names
 use Rattle.cred_spelling.specs.Words as words
-use Rattle.cred_spelling.specs.Words.{◌>>=◌}
-use Rattle.cred_forms.specs.IdCalls as calls
+use Rattle.cred_ids.specs.Tests.{◌>>=◌}
+use Rattle.cred_grammar.specs.IdCalls as calls
 use Rattle.cred_report.specs.Calls.{call_text}
 use Rattle.cred_reader.specs.Events as events
 use Rattle.cred_reader.specs.Fits.{FitsCall}

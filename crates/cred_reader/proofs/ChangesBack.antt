@@ -10,9 +10,9 @@ use Rattle.cred_model.specs.Named.{change_files}
 use Rattle.cred_model.specs.Script.{Script}
 use Rattle.cred_spelling.specs.Names as names
 use Rattle.cred_spelling.specs.Words as words
-use Rattle.cred_spelling.specs.Words.{◌>>=◌}
-use Rattle.cred_forms.specs.Changes as changes
-use Rattle.cred_pen.specs.Numbers.{hexadecimal}
+use Rattle.cred_ids.specs.Tests.{◌>>=◌}
+use Rattle.cred_grammar.specs.Changes as changes
+use Rattle.cred_report.specs.Numbers.{hexadecimal}
 use Rattle.cred_report.specs.Questions.{file_text}
 use Rattle.cred_report.specs.Calls.{change_text}
 use Rattle.cred_reader.specs.Events as events

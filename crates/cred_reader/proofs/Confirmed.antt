@@ -4,9 +4,9 @@ use Rattle.cred_event.specs.declared.entry.Entry.{Entry}
 use Rattle.cred_model.specs.Script.{Script}
 use Rattle.cred_spelling.specs.Words.{line_words}
 use Rattle.cred_spelling.specs.declared.reason.Reason.{Reason}
-use Rattle.cred_forms.specs.declared.refusal.LineRefusal.{LineRefusal}
-use Rattle.cred_forms.specs.declared.refusal.LineRefusal.TheVariants as line
-use Rattle.cred_forms.specs.Read.{GivesLine}
+use Rattle.cred_grammar.specs.declared.refusal.LineRefusal.{LineRefusal}
+use Rattle.cred_grammar.specs.declared.refusal.LineRefusal.TheVariants as line
+use Rattle.cred_grammar.specs.ReadAnswers.{GivesLine}
 use Rattle.cred_report.specs.Text.{entry_text}
 use Rattle.cred_reader.specs.Entry.{read_entry, body_of}
 use Rattle.cred_reader.specs.Fits.{Fits, IsSoundEntry}

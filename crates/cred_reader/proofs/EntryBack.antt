@@ -1,5 +1,6 @@
 -- Entries that were printed, read back.
-use Rattle.std.proofs.Common.{◌≡◌, ℕ, ◌+◌, ◌-◌, true, List, ◌∷◌, ◌++◌, length, take, drop, codes, Ok, refl, sym, ap, ◌∙◌, append_assoc, length-append, decimal, arith}
+use Rattle.std.proofs.Common.{◌≡◌, ℕ, ◌+◌, ◌-◌, true, List, ◌∷◌, ◌++◌, length, take, drop, codes, Ok, refl, sym, ap, ◌∙◌, append_assoc, length-append, decimal}
+use Rattle.std.proofs.Common.{arith}
 use Rattle.std.specs.List.{list_all}
 use Rattle.std.proofs.Math.Seq.{drop-append-add}
 use Rattle.std.proofs.lemmas.List.{take_at}
@@ -87,7 +88,9 @@ entry_back script entry fits =
     let text = as_words (decimal entry.line) _ _ es vs eb.spaced ab.spaced in
     let body : body_of (entry_text script entry) ≡ decimal entry.line ++ spaced (behind es vs)
     = ap body_of text ∙ body_back (decimal entry.line ++ spaced (behind es vs)) in
-    let split = words_back (decimal entry.line) (behind es vs) (plain_whole (decimal entry.line) (decimal_plain entry.line (long_number entry.line fits.line))) (behind_whole es vs eb.plain ab.plain) in
+    let split =
+    words_back (decimal entry.line) (behind es vs) (plain_whole (decimal entry.line) (decimal_plain entry.line (long_number entry.line fits.line)))
+    (behind_whole es vs eb.plain ab.plain) in
     ap (λ (b : List ℕ). read_entry script.files (line_words b)) body
     ∙ ap (read_entry script.files) split
     ∙ entry_from script.files entry.line entry.event entry.answer es vs fits.line eb.plain eb.read ab.read

@@ -28,7 +28,8 @@ entry_fits files (number ∷ words) =
     then_holds IsNumber AreSpelled (word_of number_of number) _ (word_holds IsNumber number_of number_fits number) (λ line l.
     then_holds (λ place. Unit {0}) AreSpelled (ok_or (position is_arrow words) Word) _ (any_holds (ok_or (position is_arrow words) Word)) (λ place p.
     then_holds FitsEvent AreSpelled (read_event files (take place words)) _ (event_fits files (take place words)) (λ event e.
-    then_holds FitsAnswer AreSpelled (read_answer (told_by event) (drop (place + 1) words)) _ (answer_fits (told_by event) (drop (place + 1) words)) (λ answer a.
+    then_holds FitsAnswer AreSpelled (read_answer (told_by event) (drop (place + 1) words)) _ (answer_fits (told_by event) (drop (place + 1) words))
+    (λ answer a.
     record { line = l; event = e; answer = a }))))
 
 -- of an entry that was read

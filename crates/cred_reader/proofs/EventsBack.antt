@@ -14,8 +14,8 @@ use Rattle.cred_event.specs.declared.event.Event.TheVariants as event
 use Rattle.cred_model.specs.Named.{query_files, change_files, event_files}
 use Rattle.cred_model.specs.Script.{Script}
 use Rattle.cred_spelling.specs.Words as words
-use Rattle.cred_forms.specs.FileCalls as file_calls
-use Rattle.cred_forms.specs.Modes as modes
+use Rattle.cred_grammar.specs.FileCalls as file_calls
+use Rattle.cred_grammar.specs.Modes as modes
 use Rattle.cred_report.specs.Questions.{file_text, want_text}
 use Rattle.cred_report.specs.Events.{event_text}
 use Rattle.cred_reader.specs.Events as spec
@@ -41,7 +41,17 @@ init_back script task process user group ns fits = record {
   first = codes "init";
   rest = (codes "t" ++ decimal task) ∷ (codes "p" ++ decimal process) ∷ decimal user ∷ decimal group ∷ (codes "n" ++ decimal ns) ∷ [];
   spaced = simp (append_assoc, append-nil);
-  plain = rw (decimal_inner task (long_number task fits.0), decimal_inner process (long_number process fits.1), decimal_plain user (long_number user (id_number user fits.2)), decimal_plain group (long_number group (id_number group fits.3)), decimal_inner ns (long_number ns (ns_number ns fits.4))) refl;
+  plain =
+      rw (
+        decimal_inner task (long_number task fits.0),
+        decimal_inner process (long_number process fits.1),
+        decimal_plain user
+            (long_number user (id_number user fits.2)),
+        decimal_plain group (long_number group (id_number group fits.3)),
+        decimal_inner ns
+            (long_number ns (ns_number ns fits.4)),
+      )
+      refl;
   read = rw (number_back task fits.0, number_back process fits.1, id_back user fits.2, id_back group fits.3, namespace_back ns fits.4) refl;
 }
 
@@ -96,7 +106,15 @@ signal_back script from hold to target fits = record {
   first = codes "signal";
   rest = (codes "t" ++ decimal from) ∷ (codes "h" ++ decimal hold) ∷ (codes "t" ++ decimal to) ∷ (codes "h" ++ decimal target) ∷ [];
   spaced = simp (append_assoc, append-nil);
-  plain = rw (decimal_inner from (long_number from fits.0), decimal_inner hold (long_number hold fits.1), decimal_inner to (long_number to fits.2), decimal_inner target (long_number target fits.3)) refl;
+  plain =
+      rw (
+        decimal_inner from (long_number from fits.0),
+        decimal_inner hold (long_number hold fits.1),
+        decimal_inner to (long_number to fits.2),
+        decimal_inner
+            target (long_number target fits.3),
+      )
+      refl;
   read = rw (number_back from fits.0, number_back hold fits.1, number_back to fits.2, number_back target fits.3) refl;
 }
 
@@ -106,7 +124,8 @@ unfolding spec.read_event spec.event_names spec.event_named spec.label_event wor
 prepare_back script label task hold fits =
     with_three (codes "prepare") (codes "h" ++ decimal label) (codes "t" ++ decimal task) (codes "h" ++ decimal hold)
     (simp (append_assoc, append-nil))
-    refl (rw (decimal_inner label (long_number label fits.0)) refl) (rw (decimal_inner task (long_number task fits.1)) refl) (rw (decimal_inner hold (long_number hold fits.2)) refl)
+    refl (rw (decimal_inner label (long_number label fits.0)) refl) (rw (decimal_inner task (long_number task fits.1)) refl)
+    (rw (decimal_inner hold (long_number hold fits.2)) refl)
     (rw (number_back label fits.0, number_back task fits.1, number_back hold fits.2) refl)
 
 alter_back : (script : Script) (label : ℕ) (change : Change) → FitsEvent (event.Alter label change) → All (IsFile script) (change_files change)
@@ -169,7 +188,9 @@ act_back : (script : Script) (cast : ℕ) → FitsEvent (event.Act cast)
 unfolding spec.read_event spec.event_names spec.event_named
 act_back script cast fits = with_word (codes "act") (decimal cast) refl (decimal_plain cast (long_number cast fits)) (rw (number_back cast fits) refl)
 
-open_words : (hold file want fd : List ℕ) → 32 ∷ (codes "open h" ++ hold ++ codes " " ++ file ++ codes " " ++ want ++ codes " f" ++ fd) ≡ spaced (codes "open" ∷ (codes "h" ++ hold) ∷ file ∷ want ∷ (codes "f" ++ fd) ∷ [])
+open_words : (hold file want fd : List ℕ)
+    → 32 ∷ (codes "open h" ++ hold ++ codes " " ++ file ++ codes " " ++ want ++ codes " f" ++ fd)
+    ≡ spaced (codes "open" ∷ (codes "h" ++ hold) ∷ file ∷ want ∷ (codes "f" ++ fd) ∷ [])
 open_words hold file want fd = simp (append_assoc, append-nil)
 
 open_back : (script : Script) (hold : ℕ) (file : ℕ) (want : Want) (fd : ℕ) → FitsEvent (event.OpenFile hold file want fd) → IsFile script file
@@ -203,7 +224,8 @@ unfolding spec.read_event spec.event_names spec.event_named spec.task_event word
 fork_back script task child process fits =
     with_three (codes "fork") (codes "t" ++ decimal task) (codes "t" ++ decimal child) (codes "p" ++ decimal process)
     (simp (append_assoc, append-nil))
-    refl (rw (decimal_inner task (long_number task fits.0)) refl) (rw (decimal_inner child (long_number child fits.1)) refl) (rw (decimal_inner process (long_number process fits.2)) refl)
+    refl (rw (decimal_inner task (long_number task fits.0)) refl) (rw (decimal_inner child (long_number child fits.1)) refl)
+    (rw (decimal_inner process (long_number process fits.2)) refl)
     (rw (number_back task fits.0, number_back child fits.1, number_back process fits.2) refl)
 
 exit_back : (script : Script) (task : ℕ) → FitsEvent (event.Exit task)
@@ -233,23 +255,39 @@ dumped_back script task fits =
 
 ptrace_fs_back : (script : Script) (from : ℕ) (hold : ℕ) (to : ℕ) (target : ℕ) → FitsEvent (event.Ptrace from hold to target Fs)
     → EventBack script (event.Ptrace from hold to target Fs)
-unfolding spec.read_event spec.event_names spec.event_named spec.ptrace_of modes.modes words.two_of
+unfolding spec.read_event spec.event_names spec.event_named spec.ptrace_of modes.look_modes words.two_of
 ptrace_fs_back script from hold to target fits = record {
   first = codes "ptrace";
   rest = codes "fs" ∷ (codes "t" ++ decimal from) ∷ (codes "h" ++ decimal hold) ∷ (codes "t" ++ decimal to) ∷ (codes "h" ++ decimal target) ∷ [];
   spaced = simp (append_assoc, append-nil);
-  plain = rw (decimal_inner from (long_number from fits.0), decimal_inner hold (long_number hold fits.1), decimal_inner to (long_number to fits.2), decimal_inner target (long_number target fits.3)) refl;
+  plain =
+      rw (
+        decimal_inner from (long_number from fits.0),
+        decimal_inner hold (long_number hold fits.1),
+        decimal_inner to (long_number to fits.2),
+        decimal_inner
+            target (long_number target fits.3),
+      )
+      refl;
   read = rw (number_back from fits.0, number_back hold fits.1, number_back to fits.2, number_back target fits.3) refl;
 }
 
 ptrace_real_back : (script : Script) (from : ℕ) (hold : ℕ) (to : ℕ) (target : ℕ) → FitsEvent (event.Ptrace from hold to target Real)
     → EventBack script (event.Ptrace from hold to target Real)
-unfolding spec.read_event spec.event_names spec.event_named spec.ptrace_of modes.modes words.two_of
+unfolding spec.read_event spec.event_names spec.event_named spec.ptrace_of modes.look_modes words.two_of
 ptrace_real_back script from hold to target fits = record {
   first = codes "ptrace";
   rest = codes "real" ∷ (codes "t" ++ decimal from) ∷ (codes "h" ++ decimal hold) ∷ (codes "t" ++ decimal to) ∷ (codes "h" ++ decimal target) ∷ [];
   spaced = simp (append_assoc, append-nil);
-  plain = rw (decimal_inner from (long_number from fits.0), decimal_inner hold (long_number hold fits.1), decimal_inner to (long_number to fits.2), decimal_inner target (long_number target fits.3)) refl;
+  plain =
+      rw (
+        decimal_inner from (long_number from fits.0),
+        decimal_inner hold (long_number hold fits.1),
+        decimal_inner to (long_number to fits.2),
+        decimal_inner
+            target (long_number target fits.3),
+      )
+      refl;
   read = rw (number_back from fits.0, number_back hold fits.1, number_back to fits.2, number_back target fits.3) refl;
 }
 
@@ -257,13 +295,17 @@ ptrace_real_back script from hold to target fits = record {
 call_words : (name hold file : List ℕ) → 32 ∷ (name ++ codes " h" ++ hold ++ codes " " ++ file) ≡ spaced (name ∷ (codes "h" ++ hold) ∷ file ∷ [])
 call_words name hold file = simp (append_assoc, append-nil)
 
-chmod_words : (hold file mode : List ℕ) → 32 ∷ (codes "chmod h" ++ hold ++ codes " " ++ file ++ 32 ∷ mode) ≡ spaced (codes "chmod" ∷ (codes "h" ++ hold) ∷ file ∷ mode ∷ [])
+chmod_words : (hold file mode : List ℕ)
+    → 32 ∷ (codes "chmod h" ++ hold ++ codes " " ++ file ++ 32 ∷ mode) ≡ spaced (codes "chmod" ∷ (codes "h" ++ hold) ∷ file ∷ mode ∷ [])
 chmod_words hold file mode = simp (append_assoc, append-nil)
 
-attr_words : (hold file digits : List ℕ) → 32 ∷ (codes "setattr h" ++ hold ++ codes " " ++ file ++ codes " " ++ digits) ≡ spaced (codes "setattr" ∷ (codes "h" ++ hold) ∷ file ∷ digits ∷ [])
+attr_words : (hold file digits : List ℕ)
+    → 32 ∷ (codes "setattr h" ++ hold ++ codes " " ++ file ++ codes " " ++ digits) ≡ spaced (codes "setattr" ∷ (codes "h" ++ hold) ∷ file ∷ digits ∷ [])
 attr_words hold file digits = simp (append_assoc, append-nil)
 
-chown_words : (hold file owner group : List ℕ) → 32 ∷ (codes "chown h" ++ hold ++ codes " " ++ file ++ (32 ∷ owner) ++ (32 ∷ group)) ≡ spaced (codes "chown" ∷ (codes "h" ++ hold) ∷ file ∷ owner ∷ group ∷ [])
+chown_words : (hold file owner group : List ℕ)
+    → 32 ∷ (codes "chown h" ++ hold ++ codes " " ++ file ++ (32 ∷ owner) ++ (32 ∷ group))
+    ≡ spaced (codes "chown" ∷ (codes "h" ++ hold) ∷ file ∷ owner ∷ group ∷ [])
 chown_words hold file owner group = simp (append_assoc, append-nil)
 
 chown_back : (script : Script) (hold : ℕ) (file : ℕ) (owner : Arg) (group : Arg) → FitsEvent (event.Chown hold file owner group) → IsFile script file
@@ -315,7 +357,7 @@ stat_back script hold file fits own =
 
 raw_back : (script : Script) (task : ℕ) (call : IdCall) → FitsEvent (event.Raw task call)
     → EventBack script (event.Raw task call)
-unfolding spec.read_event spec.event_names spec.event_named spec.task_event spec.raw_of
+unfolding spec.read_event spec.event_names spec.event_named spec.task_event spec.read_raw
 raw_back script task call fits =
     let back = call_back script call fits.1 in
     record {

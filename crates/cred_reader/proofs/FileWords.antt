@@ -1,5 +1,6 @@
 -- The words of a mode and of the bytes of an attribute spell what fits.
-use Rattle.std.proofs.Common.{◌≡◌, ℕ, suc, ◌≤◌, ◌<◌, Bool, true, false, ◌&&◌, nat_le, cond, List, [], ◌∷◌, length, Option, Some, None, Result, Ok, Err, refl, arith}
+use Rattle.std.proofs.Common.{◌≡◌, ℕ, suc, ◌≤◌, ◌<◌, Bool, true, false, ◌&&◌, nat_le, cond, List, [], ◌∷◌, length, Option, Some, None, Result, Ok, Err, refl}
+use Rattle.std.proofs.Common.{arith}
 use Rattle.std.specs.List.{All}
 use Rattle.std.specs.Option.{IfSome}
 use Rattle.std.specs.Result.{result_ok}
@@ -11,7 +12,7 @@ use Rattle.hex.proofs.HexLemmas.{decode_of-ok}
 use Rattle.cred_record.specs.File.{IsMode}
 use Rattle.cred_spelling.specs.Spellings as spelling
 use Rattle.cred_spelling.specs.Spellings.{without_0x}
-use Rattle.cred_forms.proofs.ModeWords.{mode_is}
+use Rattle.cred_grammar.proofs.ModeWords.{mode_is}
 use Rattle.cred_reader.specs.Fits.{AreBytes}
 use Rattle.cred_reader.proofs.Spelled.{HoldsSome, OfAll}
 

@@ -3,8 +3,8 @@ use Rattle.std.proofs.Common.{◌≡◌, ℕ, true, List, [], ◌∷◌, ◌++�
 use Rattle.std.specs.List.{list_all}
 use Rattle.std.proofs.lemmas.List.Elements.{All-head, All-tail}
 use Rattle.cred_ids.specs.Id.{IsId}
-use Rattle.cred_forms.specs.IdCalls.{ids}
-use Rattle.cred_pen.specs.Numbers.{ids_text}
+use Rattle.cred_grammar.specs.IdCalls.{ids}
+use Rattle.cred_report.specs.Numbers.{ids_text}
 use Rattle.cred_reader.proofs.Words.{is_plain, spaced}
 use Rattle.cred_reader.proofs.Numbers.{long_number, id_number, id_back, decimal_plain}
 

@@ -11,7 +11,7 @@ use Rattle.cred_caps.specs.Caps.{IsCaps}
 use Rattle.cred_spelling.specs.Spellings as spelling
 use Rattle.cred_spelling.specs.Table.{named}
 use Rattle.cred_spelling.specs.Words.{word_of}
-use Rattle.cred_forms.specs.IdCalls.{ids}
+use Rattle.cred_grammar.specs.IdCalls.{ids}
 use Rattle.cred_reader.specs.Fits.{IsNumber, IsLong, IsArg, IsNamespace, IsWant}
 use Rattle.cred_reader.specs.Kinds as kinds
 use Rattle.cred_reader.proofs.Spelled.{Holds, HoldsSome, OfAll, then_holds, word_holds}
@@ -21,11 +21,13 @@ pub if_holds : {A : Type 0} (P : A → Type 0) (t : Bool) (v : A) → (t ≡ tru
 if_holds P true v h = h refl
 if_holds P false v h = tt
 
-pub then_some : {A B : Type 0} (P : A → Type 0) (Q : B → Type 0) (o : Option A) (f : A → Option B) → HoldsSome P o → ((x : A) → P x → HoldsSome Q (f x)) → HoldsSome Q (option_and_then f o)
+pub then_some : {A B : Type 0} (P : A → Type 0) (Q : B → Type 0) (o : Option A) (f : A → Option B) → HoldsSome P o → ((x : A) → P x → HoldsSome Q (f x))
+    → HoldsSome Q (option_and_then f o)
 then_some P Q (Some x) f h next = next x h
 then_some P Q None f h next = tt
 
-pub map_some : {A B : Type 0} (P : A → Type 0) (Q : B → Type 0) (o : Option A) (f : A → B) → HoldsSome P o → ((x : A) → P x → Q (f x)) → HoldsSome Q (option_map f o)
+pub map_some : {A B : Type 0} (P : A → Type 0) (Q : B → Type 0) (o : Option A) (f : A → B) → HoldsSome P o → ((x : A) → P x → Q (f x))
+    → HoldsSome Q (option_map f o)
 map_some P Q (Some x) f h next = next x h
 map_some P Q None f h next = tt
 
@@ -61,7 +63,8 @@ arg_fits word = either_holds IsArg _ (Some Keep) _ tt (map_some IsId IsArg (spel
 pub set_fits : OfAll IsCaps spelling.set_of
 set_fits word =
     either_holds IsCaps _ _ None
-    (then_some (λ bits. Unit {0}) IsCaps (spelling.hexadecimal_number word) spelling.set_with (any_some (spelling.hexadecimal_number word)) (λ bits h. if_holds IsCaps _ bits (λ t. below _ (2 ^ 41) t)))
+    (then_some (λ bits. Unit {0}) IsCaps (spelling.hexadecimal_number word) spelling.set_with (any_some (spelling.hexadecimal_number word))
+    (λ bits h. if_holds IsCaps _ bits (λ t. below _ (2 ^ 41) t)))
     tt
   where
     any_some : (o : Option ℕ) → HoldsSome (λ bits. Unit {0}) o
@@ -91,14 +94,18 @@ pub cred_fits : OfAll IsLong kinds.cred_of
 cred_fits word = behind_fits IsLong 99 spelling.long_of long_fits word
 
 within_fits : OfAll IsNamespace (spelling.number_within 0 15)
-within_fits word = then_some IsNumber IsNamespace (spelling.number_of word) (spelling.within 0 15) (number_fits word) (λ number h. if_holds IsNamespace _ number (λ t. up_to _ 15 (both (nat_le 0 number) _ t).1))
+within_fits word =
+    then_some IsNumber IsNamespace (spelling.number_of word) (spelling.within 0 15) (number_fits word)
+    (λ number h. if_holds IsNamespace _ number (λ t. up_to _ 15 (both (nat_le 0 number) _ t).1))
 
 pub namespace_fits : OfAll IsNamespace spelling.namespace_of
 namespace_fits [] = tt
 namespace_fits (first ∷ digits) = either_holds IsNamespace (first == 110) _ None (within_fits digits) tt
 
 pub bits_fits : OfAll (λ bits. bits < 2 ^ 8) kinds.bits_of
-bits_fits word = then_some IsNumber (λ bits. bits < 2 ^ 8) (spelling.number_of word) _ (number_fits word) (λ number h. if_holds (λ bits. bits < 2 ^ 8) _ number (λ t. let le = up_to number 255 t in omega arith))
+bits_fits word =
+    then_some IsNumber (λ bits. bits < 2 ^ 8) (spelling.number_of word) _ (number_fits word)
+    (λ number h. if_holds (λ bits. bits < 2 ^ 8) _ number (λ t. let le = up_to number 255 t in omega arith))
 
 -- it holds of each value of a table
 abbrev pub RowsHold : {A : Type 0} → (A → Type 0) → List (List ℕ × A) → Type 0

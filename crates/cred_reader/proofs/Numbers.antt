@@ -1,5 +1,6 @@
 -- Numbers that were printed, read back.
-use Rattle.std.proofs.Common.{◌≡◌, ℕ, ◌^◌, ◌<◌, true, false, ◌&&◌, ◌==◌, nat_lt, nat_le, Some, List, [], ◌∷◌, length, get_or, refl, inl, inr, eq-zero-or-pos, decimal, arith}
+use Rattle.std.proofs.Common.{◌≡◌, ℕ, ◌^◌, ◌<◌, true, false, ◌&&◌, ◌==◌, nat_lt, nat_le, Some, List, [], ◌∷◌, length, get_or, refl, inl, inr, eq-zero-or-pos}
+use Rattle.std.proofs.Common.{decimal, arith}
 use Rattle.std.specs.List.{list_all}
 use Rattle.std.specs.Str.{all_ascii_digits}
 use Rattle.std.specs.Str.Parse.{digits_value}

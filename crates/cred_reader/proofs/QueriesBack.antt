@@ -7,7 +7,7 @@ use Rattle.cred_event.specs.declared.event.Query.TheVariants as query
 use Rattle.cred_model.specs.Named.{query_files}
 use Rattle.cred_model.specs.Script.{Script}
 use Rattle.cred_spelling.specs.Names as names
-use Rattle.cred_forms.specs.Questions as questions
+use Rattle.cred_grammar.specs.Questions as questions
 use Rattle.cred_report.specs.Questions.{file_text, want_text, query_text}
 use Rattle.cred_reader.specs.Fits.{IsFile, FitsQuery}
 use Rattle.cred_reader.proofs.Back.{IsBack, alone, bare, with_word}

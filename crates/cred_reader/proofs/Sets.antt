@@ -1,5 +1,6 @@
 -- Sets that were printed, read back.
-use Rattle.std.proofs.Common.{◌≡◌, ℕ, zero, suc, ◌+◌, ◌-◌, ◌/◌, ◌%◌, ◌^◌, ◌<◌, ◌≤◌, Bool, true, false, ◌==◌, nat_lt, nat_le, cond, Some, List, [], ◌∷◌, length, refl, ap, inl, inr, eq-zero-or-pos, arith}
+use Rattle.std.proofs.Common.{◌≡◌, ℕ, zero, suc, ◌+◌, ◌-◌, ◌/◌, ◌%◌, ◌^◌, ◌<◌, ◌≤◌, Bool, true, false, ◌==◌, nat_lt, nat_le, cond, Some, List, [], ◌∷◌, length}
+use Rattle.std.proofs.Common.{refl, ap, inl, inr, eq-zero-or-pos, arith}
 use Rattle.std.specs.List.{list_all}
 use Rattle.std.specs.Char.{is_digit, digit_value}
 use Rattle.std.specs.Fmt.{digits, digits_onto, digit_glyph}
@@ -9,7 +10,7 @@ use Rattle.std.proofs.lemmas.Grind.{pow_more}
 use Rattle.std.proofs.Math.Nat.{pow-le-pow_right}
 use Rattle.std.proofs.lemmas.Bool.Decides.{nat_tests}
 use Rattle.cred_caps.specs.Caps.{IsCaps}
-use Rattle.cred_pen.specs.Numbers.{hexadecimal}
+use Rattle.cred_report.specs.Numbers.{hexadecimal}
 use Rattle.cred_spelling.specs.Spellings.{set_of}
 use Rattle.cred_reader.proofs.Words.{is_inner, is_plain}
 

@@ -1,6 +1,7 @@
 -- What words are read as has numbers that fit.
 use Rattle.std.proofs.Common.{ℕ, Option, Some, None, List, [], ◌∷◌, Result, Ok, Err, ok_or}
-use Rattle.cred_spelling.specs.Words.{◌>>=◌, word_of, one_of, two_of, three_of, five_of}
+use Rattle.cred_spelling.specs.Words.{word_of, one_of, two_of, three_of, five_of}
+use Rattle.cred_ids.specs.Tests.{◌>>=◌}
 
 -- it holds of what was read, if anything was
 abbrev pub Holds : {A E : Type 0} → (A → Type 0) → Result A E → Type 0
@@ -16,7 +17,8 @@ HoldsSome P None = Unit {0}
 abbrev pub OfAll : {A : Type 0} → (A → Type 0) → (List ℕ → Option A) → Type 0
 OfAll P spelled = (word : List ℕ) → HoldsSome P (spelled word)
 
-pub then_holds : {A B E : Type 0} (P : A → Type 0) (Q : B → Type 0) (r : Result A E) (f : A → Result B E) → Holds P r → ((x : A) → P x → Holds Q (f x)) → Holds Q (r >>= f)
+pub then_holds : {A B E : Type 0} (P : A → Type 0) (Q : B → Type 0) (r : Result A E) (f : A → Result B E) → Holds P r → ((x : A) → P x → Holds Q (f x))
+    → Holds Q (r >>= f)
 then_holds P Q (Ok x) f h next = next x h
 then_holds P Q (Err e) f h next = tt
 
@@ -32,7 +34,8 @@ one_holds P a all [] = tt
 one_holds P a all (w ∷ []) = word_holds P a all w
 one_holds P a all (w ∷ v ∷ ws) = tt
 
-pub two_holds : {A B : Type 0} (P : A → Type 0) (Q : B → Type 0) (a : List ℕ → Option A) (b : List ℕ → Option B) → OfAll P a → OfAll Q b → (words : List (List ℕ)) → Holds (λ (v : A × B). P v.0 × Q v.1) (two_of a b words)
+pub two_holds : {A B : Type 0} (P : A → Type 0) (Q : B → Type 0) (a : List ℕ → Option A) (b : List ℕ → Option B) → OfAll P a → OfAll Q b
+    → (words : List (List ℕ)) → Holds (λ (v : A × B). P v.0 × Q v.1) (two_of a b words)
 unfolding two_of
 two_holds P Q a b all_a all_b [] = tt
 two_holds P Q a b all_a all_b (w ∷ []) = tt
@@ -41,7 +44,8 @@ two_holds P Q a b all_a all_b (w ∷ v ∷ []) =
     then_holds Q _ (word_of b v) _ (word_holds Q b all_b v) (λ y q. (p, q)))
 two_holds P Q a b all_a all_b (w ∷ v ∷ u ∷ ws) = tt
 
-pub three_holds : {A B C : Type 0} (P : A → Type 0) (Q : B → Type 0) (R : C → Type 0) (a : List ℕ → Option A) (b : List ℕ → Option B) (c : List ℕ → Option C) → OfAll P a → OfAll Q b → OfAll R c → (words : List (List ℕ)) → Holds (λ (v : A × B × C). P v.0 × Q v.1 × R v.2) (three_of a b c words)
+pub three_holds : {A B C : Type 0} (P : A → Type 0) (Q : B → Type 0) (R : C → Type 0) (a : List ℕ → Option A) (b : List ℕ → Option B) (c : List ℕ → Option C)
+    → OfAll P a → OfAll Q b → OfAll R c → (words : List (List ℕ)) → Holds (λ (v : A × B × C). P v.0 × Q v.1 × R v.2) (three_of a b c words)
 unfolding three_of
 three_holds P Q R a b c all_a all_b all_c [] = tt
 three_holds P Q R a b c all_a all_b all_c (w ∷ []) = tt
@@ -53,7 +57,10 @@ three_holds P Q R a b c all_a all_b all_c (w ∷ v ∷ u ∷ []) =
 three_holds P Q R a b c all_a all_b all_c (w ∷ v ∷ u ∷ t ∷ ws) = tt
 
 -- what five words spell, where one thing holds of all
-pub five_holds : {A B C D E : Type 0} (P : A → Type 0) (Q : B → Type 0) (R : C → Type 0) (S : D → Type 0) (T : E → Type 0) (a : List ℕ → Option A) (b : List ℕ → Option B) (c : List ℕ → Option C) (d : List ℕ → Option D) (e : List ℕ → Option E) → OfAll P a → OfAll Q b → OfAll R c → OfAll S d → OfAll T e → (words : List (List ℕ)) → Holds (λ (v : A × B × C × D × E). P v.0 × Q v.1 × R v.2 × S v.3 × T v.4) (five_of a b c d e words)
+pub five_holds : {A B C D E : Type 0} (P : A → Type 0) (Q : B → Type 0) (R : C → Type 0) (S : D → Type 0) (T : E → Type 0) (a : List ℕ → Option A)
+    (b : List ℕ → Option B) (c : List ℕ → Option C) (d : List ℕ → Option D) (e : List ℕ → Option E)
+    → OfAll P a → OfAll Q b → OfAll R c → OfAll S d → OfAll T e → (words : List (List ℕ))
+    → Holds (λ (v : A × B × C × D × E). P v.0 × Q v.1 × R v.2 × S v.3 × T v.4) (five_of a b c d e words)
 unfolding five_of
 five_holds P Q R S T a b c d e all_a all_b all_c all_d all_e [] = tt
 five_holds P Q R S T a b c d e all_a all_b all_c all_d all_e (w ∷ []) = tt

@@ -9,8 +9,8 @@ use Rattle.cred_ids.specs.declared.arg.Arg.TheVariants.{Keep, Set}
 use Rattle.cred_record.specs.declared.want.Want.{Want}
 use Rattle.cred_model.specs.Script.{Script}
 use Rattle.cred_spelling.specs.Spellings as spelling
-use Rattle.cred_forms.specs.Files.{file_at}
-use Rattle.cred_pen.specs.Numbers.{arg_text}
+use Rattle.cred_grammar.specs.Files.{file_at}
+use Rattle.cred_report.specs.Numbers.{arg_text}
 use Rattle.cred_report.specs.Questions.{file_text, want_text}
 use Rattle.cred_reader.specs.Fits.{IsArg, IsWant, IsFile, IsNamespace, IsNumber}
 use Rattle.cred_reader.specs.Kinds as kinds
@@ -50,7 +50,9 @@ arg_back (Set id) h =
     let long = long_number id (id_number id h) in
     id_arg (decimal id) id (digits_no_dash (decimal id) (decimal_digits id long) (decimal_nonempty id long)) (id_back id h)
 
-want_parts : (r w x : Bool) → (r || w || x) ≡ true → (spelling.want_of (want_text (record { r = r; w = w; x = x })) ≡ Some (record { r = r; w = w; x = x })) × (is_plain (want_text (record { r = r; w = w; x = x })) ≡ true)
+want_parts : (r w x : Bool) → (r || w || x) ≡ true
+    → (spelling.want_of (want_text (record { r = r; w = w; x = x })) ≡ Some (record { r = r; w = w; x = x }))
+    × (is_plain (want_text (record { r = r; w = w; x = x })) ≡ true)
 unfolding spelling.wants
 want_parts true true true h = (refl, refl)
 want_parts true true false h = (refl, refl)

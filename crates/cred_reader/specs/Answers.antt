@@ -21,12 +21,13 @@ use Rattle.cred_spelling.specs.declared.reason.Reason.{Reason}
 use Rattle.cred_spelling.specs.declared.reason.Reason.TheVariants.{Word, Count}
 use Rattle.cred_spelling.specs.Spellings.{letter, id_of, mode_of, set_of, number_of}
 use Rattle.cred_spelling.specs.Table as table
-use Rattle.cred_spelling.specs.Words.{◌>>=◌, word_of, one_of, two_of, three_of, five_of}
-use Rattle.cred_forms.specs.IdCalls.{ids}
+use Rattle.cred_spelling.specs.Words.{word_of, one_of, two_of, three_of, five_of}
+use Rattle.cred_grammar.specs.IdCalls.{ids}
 use Rattle.cred_reader.specs.declared.answers.Tells.{Tells}
 use Rattle.cred_reader.specs.declared.answers.Tells.TheVariants.{Nothing, Ids, Caps, Groups, Bits}
 use Rattle.cred_reader.specs.declared.answers.Tells.TheVariants.{Flag, File}
 use Rattle.cred_reader.specs.Kinds.{task_word, label_word, cred_of, slot_word, flag_of, bits_of}
+use Rattle.cred_ids.specs.Tests.{◌>>=◌}
 
 -- what a question is told
 abbrev pub query_tells : Query → Tells

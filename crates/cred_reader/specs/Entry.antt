@@ -7,9 +7,10 @@ use Rattle.cred_model.specs.Script.{NamedFile}
 use Rattle.cred_spelling.specs.declared.reason.Reason.{Reason}
 use Rattle.cred_spelling.specs.declared.reason.Reason.TheVariants.{Word, Count}
 use Rattle.cred_spelling.specs.Spellings.{number_of}
-use Rattle.cred_spelling.specs.Words.{◌>>=◌, word_of}
+use Rattle.cred_spelling.specs.Words.{word_of}
 use Rattle.cred_reader.specs.Events.{read_event}
 use Rattle.cred_reader.specs.Answers.{told_by, read_answer}
+use Rattle.cred_ids.specs.Tests.{◌>>=◌}
 
 -- what stands between an event and its answer
 abbrev pub is_arrow : List ℕ → Bool

@@ -16,13 +16,13 @@ use Rattle.cred_spelling.specs.declared.reason.Reason.TheVariants.{Word, Count}
 use Rattle.cred_spelling.specs.Names.{id_name, altered_name}
 use Rattle.cred_spelling.specs.Spellings.{id_of, number_of, namespace_of, want_of}
 use Rattle.cred_spelling.specs.Table.{named}
-use Rattle.cred_spelling.specs.Words.{◌>>=◌, word_of, no_words, one_of, two_of, three_of, five_of}
-use Rattle.cred_forms.specs.Changes.{change_of}
-use Rattle.cred_forms.specs.FileCalls.{file_call_of}
-use Rattle.cred_forms.specs.Modes.{look_mode}
-use Rattle.cred_forms.specs.Files.{file_at}
-use Rattle.cred_forms.specs.Questions.{query_named}
-use Rattle.cred_forms.specs.IdCalls.{id_call_of}
+use Rattle.cred_spelling.specs.Words.{word_of, no_words, one_of, two_of, three_of, five_of}
+use Rattle.cred_grammar.specs.Changes.{change_of}
+use Rattle.cred_grammar.specs.FileCalls.{file_call_of}
+use Rattle.cred_grammar.specs.Modes.{look_mode}
+use Rattle.cred_grammar.specs.Files.{file_at}
+use Rattle.cred_grammar.specs.Questions.{query_named}
+use Rattle.cred_grammar.specs.IdCalls.{id_call_of}
 use Rattle.cred_reader.specs.declared.names.EventName.{EventName}
 use Rattle.cred_reader.specs.declared.names.EventName.TheVariants as name
 use Rattle.cred_reader.specs.declared.names.LabelEvent.{LabelEvent}
@@ -30,6 +30,7 @@ use Rattle.cred_reader.specs.declared.names.LabelEvent.TheVariants as by_label
 use Rattle.cred_reader.specs.declared.names.TaskEvent.{TaskEvent}
 use Rattle.cred_reader.specs.declared.names.TaskEvent.TheVariants as by_task
 use Rattle.cred_reader.specs.Kinds.{task_word, process_word, label_word, fd_of}
+use Rattle.cred_ids.specs.Tests.{◌>>=◌}
 
 -- what an event's text begins with
 unfoldable pub event_names : List (List ℕ × EventName)
@@ -124,12 +125,12 @@ read_begin (caller ∷ called ∷ words) = do
 read_begin words = Err Count
 
 -- the same of a thread alone
-unfoldable pub raw_of : List (List ℕ) → Result Event Reason
-raw_of (caller ∷ called ∷ words) = do
+unfoldable pub read_raw : List (List ℕ) → Result Event Reason
+read_raw (caller ∷ called ∷ words) = do
   task ← word_of task_word caller
   call ← call_named called words
   Ok (event.Raw task call)
-raw_of words = Err Count
+read_raw words = Err Count
 
 -- a hold, and a call on a file
 unfoldable pub file_event : List NamedFile → FileCallName → List (List ℕ) → Result Event Reason
@@ -187,7 +188,7 @@ task_event by_task.Dumpable words = do
   word ← two_of task_word number_of words
   Ok (event.Dumpable word.0 word.1)
 task_event by_task.Dumped words = one_of task_word words >>= λ task. Ok (event.Dumped task)
-task_event by_task.Raw words = raw_of words
+task_event by_task.Raw words = read_raw words
 
 -- how it is asked for, and then two tasks, each with the label that holds its credential
 unfoldable pub ptrace_of : List (List ℕ) → Result Event Reason

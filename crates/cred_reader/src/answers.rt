@@ -1,14 +1,14 @@
 //! The answer that words are the text of, for an event.
 ghost use Rattle.std.specs.Prelude.{◌≡◌};
 ghost use Rattle.cred_spelling.specs.Read.{Says, nows};
-ghost use Rattle.cred_forms.specs.Read.{GivesLine};
+ghost use Rattle.cred_grammar.specs.ReadAnswers.{GivesLine};
 ghost use Rattle.cred_reader.specs.Answers as spec;
 
 use crate::kinds::{Bits, Cred, Flag, Mode, Slot, Task};
 use crate::refusals::read_refusal;
 use cred_caps::CapSet;
 use cred_event::{Answer, Event, Query, Told};
-use cred_forms::{LineRefusal, ids};
+use cred_grammar::{LineRefusal, ids};
 use cred_ids::{Id, Ids4};
 use cred_record::{Gains, IdList};
 use cred_script::Script;

@@ -1,6 +1,6 @@
 //! The event that words are the text of.
 ghost use Rattle.cred_spelling.specs.Read.{Says, nows};
-ghost use Rattle.cred_forms.specs.Read.{GivesLine};
+ghost use Rattle.cred_grammar.specs.ReadAnswers.{GivesLine};
 ghost use Rattle.std.specs.Prelude.{◌≡◌};
 ghost use Rattle.cred_model.specs.Course.{calling};
 ghost use Rattle.cred_reader.specs.Events as spec;
@@ -8,7 +8,7 @@ ghost use Rattle.cred_reader.specs.Events as spec;
 use crate::kinds::{Fd, Label, Process, Task};
 use crate::names::{EventName, LabelEvent, TaskEvent, event_name};
 use cred_event::{Change, Event, FileCall, Side};
-use cred_forms::{
+use cred_grammar::{
     AccessMode, LineRefusal, change_of, file_at, file_call_of, id_call_of, query_named,
 };
 use cred_ids::Id;
@@ -128,9 +128,9 @@ fn read_begin(alloc: Global, words: &[&[u8]]) -> Result<Event, LineRefusal>
 }
 
 /// A task, and an id call of its own.
-#[tactic(auto, unfolding(crate::specs::Events::raw_of))]
+#[tactic(auto, unfolding(crate::specs::Events::read_raw))]
 fn raw_of(alloc: Global, words: &[&[u8]]) -> Result<Event, LineRefusal>
-    ensures { GivesLine (λ event. event) result (spec.raw_of (nows words.now)) }
+    ensures { GivesLine (λ event. event) result (spec.read_raw (nows words.now)) }
 {
     match words {
         [caller, called, words @ ..] => {

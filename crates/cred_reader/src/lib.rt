@@ -1,4 +1,5 @@
-//! Reading a report: the entry that a line of it is the text of.
+//! A report read back: the entry that a line is the text of. The theorem's `only` rests on it; no
+//! command calls it.
 //!
 //! `specs/Fits` says which entries fit a script, and `Kinds`, `Events`, `Answers` and `Entry` what
 //! the words of a line are read as. `read` prints what was read and compares it with the line: so

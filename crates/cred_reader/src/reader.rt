@@ -3,7 +3,7 @@ ghost use Rattle.std.specs.Prelude.{◌≡◌, ◌<◌, ◌+◌, IfOk, IfSome, S
 ghost use Rattle.std.specs.Prelude.{take, true};
 ghost use Rattle.cred_event.specs.declared.entry.Entry.{Entry as SeenEntry};
 ghost use Rattle.cred_spelling.specs.Read.{nows};
-ghost use Rattle.cred_forms.specs.Read.{GivesLine};
+ghost use Rattle.cred_grammar.specs.ReadAnswers.{GivesLine};
 ghost use Rattle.cred_report.specs.Text.{entry_text};
 ghost use Rattle.cred_reader.specs.Entry as spec;
 ghost use Rattle.cred_reader.specs.Fits.{Fits, IsSoundEntry};
@@ -13,7 +13,7 @@ use crate::events::read_event;
 use crate::fits::is_of;
 use cred_answers::can_answer;
 use cred_event::Entry;
-use cred_forms::LineRefusal;
+use cred_grammar::LineRefusal;
 use cred_ids::NoMemory;
 use cred_report::print;
 use cred_script::Script;

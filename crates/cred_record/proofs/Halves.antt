@@ -1,12 +1,14 @@
 -- Words read in parts: a half of a word of groups, and the words before those of groups.
-use Rattle.std.proofs.Common.{◌≡◌, ℕ, zero, suc, ◌+◌, ◌/◌, ◌%◌, ◌^◌, ◌<◌, ◌≤◌, Bool, true, false, ◌==◌, List, [], take, drop, slice_index, ⊎_elim, refl, sym, ap, ◌∙◌, subst, arith}
+use Rattle.std.proofs.Common.{◌≡◌, ℕ, zero, suc, ◌+◌, ◌/◌, ◌%◌, ◌^◌, ◌<◌, ◌≤◌, Bool, true, false, ◌==◌, List, [], take, drop, slice_index, ⊎_elim, refl, sym}
+use Rattle.std.proofs.Common.{ap, ◌∙◌, subst, arith}
 use Rattle.std.specs.Prelude.{if◌then◌else◌}
 use Rattle.std.proofs.lemmas.Bool.{cases_lt, eqb-true, eq-eqb}
 use Rattle.std.proofs.lemmas.List.{get_or-drop, get_or-take, drop-take}
 use Rattle.cred_ids.specs.Ordered.{in_order}
 use Rattle.cred_record.specs.Credential.{Credential}
 use Rattle.cred_record.specs.Words.{low, high, half, unpaired, ids_of, group_count, credential_in, IsCredential, are_words}
-use Rattle.cred_record.specs.declared.layout.TheConstants.{USER, SAVED_USER, GROUP, SAVED_GROUP, PERMITTED, INHERITABLE, EFFECTIVE, BOUNDING, AMBIENT, FLAGS, NAMESPACE, ROOT, GROUPS}
+use Rattle.cred_record.specs.declared.layout.TheConstants.{USER, SAVED_USER, GROUP, SAVED_GROUP, PERMITTED, INHERITABLE, EFFECTIVE, BOUNDING, AMBIENT, FLAGS}
+use Rattle.cred_record.specs.declared.layout.TheConstants.{NAMESPACE, ROOT, GROUPS}
 use Rattle.cred_record.proofs.WordLemmas.{unpaired-low, unpaired-high, AllGroups, IsValid, credential-is, credential-test, words-are}
 
 -- ---- a half of a word
@@ -25,8 +27,10 @@ half-odd word place odd = by (place % 2 == 0) refl
 pub half-at : (ws : List ℕ) (place : ℕ) → half (slice_index ws (GROUPS + place / 2)) place ≡ slice_index (unpaired (drop GROUPS ws)) place
 half-at ws place =
     ⊎_elim
-    (λ (even : place % 2 < 1). half-even (slice_index ws (GROUPS + place / 2)) place (omega arith) ∙ ap low (sym (get_or-drop GROUPS ws (place / 2) 0)) ∙ sym (unpaired-low (drop GROUPS ws) (place / 2) place (omega arith)))
-    (λ (odd : 1 ≤ place % 2). half-odd (slice_index ws (GROUPS + place / 2)) place odd ∙ ap high (sym (get_or-drop GROUPS ws (place / 2) 0)) ∙ sym (unpaired-high (drop GROUPS ws) (place / 2) place (omega arith)))
+    (λ (even : place % 2 < 1). half-even (slice_index ws (GROUPS + place / 2)) place (omega arith) ∙ ap low (sym (get_or-drop GROUPS ws (place / 2) 0))
+    ∙ sym (unpaired-low (drop GROUPS ws) (place / 2) place (omega arith)))
+    (λ (odd : 1 ≤ place % 2). half-odd (slice_index ws (GROUPS + place / 2)) place odd ∙ ap high (sym (get_or-drop GROUPS ws (place / 2) 0))
+    ∙ sym (unpaired-high (drop GROUPS ws) (place / 2) place (omega arith)))
     (cases_lt (place % 2) 1)
 
 -- ---- the words before those of groups

@@ -1,5 +1,6 @@
 -- The words of a credential give the credential again.
-use Rattle.std.proofs.Common.{◌≡◌, ℕ, zero, suc, ◌+◌, ◌-◌, ◌*◌, ◌/◌, ◌%◌, ◌^◌, ◌<◌, ◌≤◌, Bool, true, false, true≢false, ◌&&◌, ◌==◌, nat_eq, nat_lt, List, [], ◌∷◌, length, take, drop, slice_index, All, refl, sym, ap, ◌∙◌, subst, arith, add-one, bit_and, bit_or, set, ◌++◌}
+use Rattle.std.proofs.Common.{◌≡◌, ℕ, zero, suc, ◌+◌, ◌-◌, ◌*◌, ◌/◌, ◌%◌, ◌^◌, ◌<◌, ◌≤◌, Bool, true, false, true≢false, ◌&&◌, ◌==◌, nat_eq, nat_lt, List, []}
+use Rattle.std.proofs.Common.{◌∷◌, length, take, drop, slice_index, All, refl, sym, ap, ◌∙◌, subst, arith, add-one, bit_and, bit_or, set, ◌++◌}
 use Rattle.std.specs.Int.{from_bool}
 use Rattle.std.proofs.lemmas.List.{get_or-drop, get_or-take, take_all, take_more, take_more_set}
 use Rattle.std.proofs.lemmas.Nat.{and_mask, or_shifted, shl_whole}
@@ -16,9 +17,11 @@ use Rattle.cred_ids.specs.Ordered.{in_order}
 use Rattle.cred_ids.proofs.InOrder.{in_order-is}
 use Rattle.cred_ids.specs.Limits.{GROUP_LIMIT}
 use Rattle.cred_record.specs.Credential.{Credential, AreValidSets}
-use Rattle.cred_record.specs.Words.{pair, low, high, group_words, unpaired, words_of, credential_in, ids_of, group_count, are_ids, are_groups, are_sets, is_credential, IsCredential, are_words}
+use Rattle.cred_record.specs.Words.{pair, low, high, group_words, unpaired, words_of, credential_in, ids_of, group_count, are_ids, are_groups, are_sets}
+use Rattle.cred_record.specs.Words.{is_credential, IsCredential, are_words}
 use Rattle.cred_record.specs.WordLaws.{NoWordsSpellTwo, WordsAreTested}
-use Rattle.cred_record.specs.declared.layout.TheConstants.{WORDS, USER, SAVED_USER, GROUP, SAVED_GROUP, PERMITTED, INHERITABLE, EFFECTIVE, BOUNDING, AMBIENT, FLAGS, NAMESPACE, ROOT, GROUPS}
+use Rattle.cred_record.specs.declared.layout.TheConstants.{WORDS, USER, SAVED_USER, GROUP, SAVED_GROUP, PERMITTED, INHERITABLE, EFFECTIVE, BOUNDING, AMBIENT}
+use Rattle.cred_record.specs.declared.layout.TheConstants.{FLAGS, NAMESPACE, ROOT, GROUPS}
 
 -- ---- two numbers in a word
 
@@ -61,7 +64,8 @@ unpaired-group_words (suc n) (g ∷ h ∷ gs) few small =
     ap (λ xs. g ∷ h ∷ xs) (unpaired-group_words n gs (omega arith) small.1.1)
 
 -- the words of a credential from the first one of groups on
-pub at_group : (c : Credential) (i : ℕ) → i < WORDS - GROUPS → slice_index (words_of c) (GROUPS + i) ≡ pair (slice_index c.groups (2 * i)) (slice_index c.groups (2 * i + 1))
+pub at_group : (c : Credential) (i : ℕ) → i < WORDS - GROUPS
+    → slice_index (words_of c) (GROUPS + i) ≡ pair (slice_index c.groups (2 * i)) (slice_index c.groups (2 * i + 1))
 unfolding words_of
 at_group c i within =
     sym (get_or-drop GROUPS (words_of c) i 0) ∙
@@ -74,7 +78,8 @@ length-words_of c = omega (arith, length-group_words (WORDS - GROUPS) c.groups)
 
 -- ---- the word of flags
 
-pub or-flags : (count nnp bits : ℕ) → count ≤ GROUP_LIMIT → nnp < 2 → bits < 256 → bit_or (count * 2 ^ 16 % 2 ^ 64) (bit_or (nnp * 2 ^ 8 % 2 ^ 64) bits) ≡ count * 2 ^ 16 + (nnp * 2 ^ 8 + bits)
+pub or-flags : (count nnp bits : ℕ) → count ≤ GROUP_LIMIT → nnp < 2 → bits < 256
+    → bit_or (count * 2 ^ 16 % 2 ^ 64) (bit_or (nnp * 2 ^ 8 % 2 ^ 64) bits) ≡ count * 2 ^ 16 + (nnp * 2 ^ 8 + bits)
 or-flags count nnp bits few one small =
     ap (λ x. bit_or x (bit_or (nnp * 2 ^ 8 % 2 ^ 64) bits)) (shl_whole count 16 16 64 (omega arith) (omega arith)) ∙
     ap (λ x. bit_or (count * 2 ^ 16) (bit_or x bits)) (shl_whole nnp 1 8 64 (omega arith) (omega arith)) ∙
@@ -87,7 +92,8 @@ from_bool-small false = omega arith
 
 -- ---- a loop that fills a list, place by place
 
-pub filled : (words ws : List ℕ) (i r : ℕ) → i < length words → i < length ws → take i words ≡ take i ws → r ≡ slice_index ws i → take (i + 1) (set words i r) ≡ take (i + 1) ws
+pub filled : (words ws : List ℕ) (i r : ℕ) → i < length words → i < length ws → take i words ≡ take i ws → r ≡ slice_index ws i
+    → take (i + 1) (set words i r) ≡ take (i + 1) ws
 filled words ws i r a b same is =
     take_more_set words i r a ∙
     ap (λ l. l ++ r ∷ []) same ∙
@@ -177,7 +183,12 @@ sets-are c is =
 
 pub sets-test : (c : Credential) → AllSets c → are_sets c ≡ true
 sets-test c h =
-    both_true (both_true (both_true (both_true (both_true (both_true (both_true (lt-ltb _ _ h.perm) (lt-ltb _ _ h.inh)) (lt-ltb _ _ h.eff)) (lt-ltb _ _ h.bound)) (lt-ltb _ _ h.amb)) (eq-eqb _ _ h.valid.effective)) (eq-eqb _ _ h.valid.ambient)) (eq-eqb _ _ h.valid.inheritable)
+    both_true
+    (both_true
+    (both_true (both_true (both_true (both_true (both_true (lt-ltb _ _ h.perm) (lt-ltb _ _ h.inh)) (lt-ltb _ _ h.eff)) (lt-ltb _ _ h.bound)) (lt-ltb _ _ h.amb))
+    (eq-eqb _ _ h.valid.effective))
+    (eq-eqb _ _ h.valid.ambient))
+    (eq-eqb _ _ h.valid.inheritable)
 
 pub record IsValid (c : Credential) : Type 0 where
   pub uid : AllIds c.uid
@@ -210,7 +221,11 @@ credential-is c is =
 pub credential-test : (c : Credential) → IsValid c → IsCredential c
 unfolding is_credential
 credential-test c h =
-    both_true (both_true (both_true (both_true (both_true (both_true (ids-test _ h.uid) (ids-test _ h.gid)) (groups-test _ h.groups)) (sets-test c h.sets)) (lt-ltb _ _ h.bits)) (lt-ltb _ _ h.ns)) (lt-ltb _ _ h.root)
+    both_true
+    (both_true
+    (both_true (both_true (both_true (both_true (ids-test _ h.uid) (ids-test _ h.gid)) (groups-test _ h.groups)) (sets-test c h.sets)) (lt-ltb _ _ h.bits))
+    (lt-ltb _ _ h.ns))
+    (lt-ltb _ _ h.root)
 
 -- ---- the words of a credential read again
 
@@ -242,7 +257,8 @@ again c h k = record {
   uid = ids-again c.uid h.uid k;
   gid = ids-again c.gid h.gid k;
   groups =
-      (ap (λ (n : ℕ). take n (unpaired (group_words (WORDS - GROUPS) c.groups))) (count-again (length c.groups) (from_bool c.nnp) c.bits (from_bool-small c.nnp) h.bits) ∙
+      (ap (λ (n : ℕ). take n (unpaired (group_words (WORDS - GROUPS) c.groups)))
+      (count-again (length c.groups) (from_bool c.nnp) c.bits (from_bool-small c.nnp) h.bits) ∙
       unpaired-group_words (WORDS - GROUPS) c.groups (omega (arith, h.groups.few)) (all_small c.groups h.groups.each)) k;
   perm = c.perm;
   inh = c.inh;
@@ -263,7 +279,8 @@ words-again c is = again c (credential-is c is)
 pub words-test : (c : Credential) → IsCredential c → are_words (words_of c) ≡ true
 unfolding are_words
 words-test c is =
-    subst (λ (d : Credential). (is_credential d && pointwise nat_eq (words_of d) (words_of c)) ≡ true) (sym (words-again c is)) (both_true is (same (words_of c)))
+    subst (λ (d : Credential). (is_credential d && pointwise nat_eq (words_of d) (words_of c)) ≡ true) (sym (words-again c is))
+    (both_true is (same (words_of c)))
 
 pub words-are : (ws : List ℕ) → are_words ws ≡ true → IsCredential (credential_in ws) × (ws ≡ words_of (credential_in ws))
 unfolding are_words
@@ -377,7 +394,8 @@ group-at ws k is below =
     let at = each-at (take n (unpaired (drop GROUPS ws))) k h.each (omega arith) in
     subst (λ (g : ℕ). g < NO_ID) (get_or-take n (unpaired (drop GROUPS ws)) k 0 below) at
 
-pub groups-sorted : (ws : List ℕ) (n : ℕ) → are_words ws ≡ true → n ≡ group_count (slice_index ws FLAGS) → in_order (take n (unpaired (drop GROUPS ws))) ≡ (credential_in ws).groups
+pub groups-sorted : (ws : List ℕ) (n : ℕ) → are_words ws ≡ true → n ≡ group_count (slice_index ws FLAGS)
+    → in_order (take n (unpaired (drop GROUPS ws))) ≡ (credential_in ws).groups
 unfolding credential_in
 groups-sorted ws n is same =
     ap (λ (m : ℕ). in_order (take m (unpaired (drop GROUPS ws)))) same ∙

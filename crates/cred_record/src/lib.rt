@@ -1,5 +1,5 @@
-//! The credential of a task (credentials(7)), and the plain data of the calls that read or change
-//! one.
+//! The credential of a task (`struct cred`, credentials(7)), and the plain data of calls, files and
+//! gains.
 #![tactic(auto)]
 
 pub mod adj_call;

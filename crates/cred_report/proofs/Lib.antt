@@ -1,2 +1,5 @@
+mod Digits
+mod LastDigit
+mod Pieces
 pub mod Journals
 pub mod Hex

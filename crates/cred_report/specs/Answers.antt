@@ -15,7 +15,7 @@ use Rattle.cred_event.specs.declared.answer.Answer.TheVariants.{NoPrepared, NoBr
 use Rattle.cred_event.specs.declared.answer.Answer.TheVariants.{Exists, Overridden, NotOverridden}
 use Rattle.cred_event.specs.declared.answer.Answer.TheVariants.{TooDeep, Stale, TooMany, TableFull}
 use Rattle.cred_event.specs.declared.answer.Answer.TheVariants.{Aborted}
-use Rattle.cred_pen.specs.Numbers.{set_text}
+use Rattle.cred_report.specs.Numbers.{set_text}
 use Rattle.cred_report.specs.Told.{told_text}
 
 -- a sealed credential's number and its slot

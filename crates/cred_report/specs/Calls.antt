@@ -12,7 +12,7 @@ use Rattle.cred_record.specs.declared.adj_call.AdjCall.TheVariants.{KeepCaps, No
 use Rattle.cred_event.specs.declared.event.Change.{Change}
 use Rattle.cred_event.specs.declared.event.Change.TheVariants.{SetFs, Adjust, Exec, Access}
 use Rattle.cred_model.specs.Script.{Script}
-use Rattle.cred_pen.specs.Numbers.{arg_text, ids_text, set_text}
+use Rattle.cred_report.specs.Numbers.{arg_text, ids_text, set_text}
 use Rattle.cred_report.specs.Questions.{file_text}
 
 -- real, effective and saved in this order; the groups as the script gives them

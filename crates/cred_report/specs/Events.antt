@@ -16,7 +16,7 @@ use Rattle.cred_event.specs.declared.event.Mode.{Mode}
 use Rattle.cred_event.specs.declared.event.Mode.TheVariants.{Fs, Real}
 use Rattle.cred_model.specs.Script.{Script}
 use Rattle.cred_report.specs.Questions.{file_text, want_text, query_text}
-use Rattle.cred_pen.specs.Numbers.{arg_text}
+use Rattle.cred_report.specs.Numbers.{arg_text}
 use Rattle.cred_report.specs.Calls.{call_text, change_text}
 use Rattle.cred_report.specs.Told.{mode_text}
 

@@ -1,3 +1,5 @@
+pub mod Numbers
+pub mod Page
 pub mod Room
 pub mod Questions
 pub mod Calls

@@ -1,7 +1,30 @@
--- How many bytes the parts of an entry take at most, but for names of files and lists of ids. A
--- word counts with the spaces that stand in it.
+-- How many bytes numbers, ids, sets and flags take at most, and the parts of an entry, but for
+-- names of files and lists of ids. A word counts with the spaces that stand in it.
 use Rattle.std.specs.Prelude.{ℕ, ◌+◌, ◌*◌}
-use Rattle.cred_pen.specs.Room.{NUMBER, ARG, SETS}
+
+-- ---- numbers, ids, sets and flags
+
+-- the decimal digits of the greatest number of 64 bits
+abbrev pub NUMBER : ℕ
+NUMBER = 20
+
+-- an id or an argument: a space, and a number
+abbrev pub ARG : ℕ
+ARG = 1 + NUMBER
+
+-- a set: a space, and the hexadecimal digits of a number of 64 bits
+abbrev pub SET : ℕ
+SET = 1 + 16
+
+-- three sets
+abbrev pub SETS : ℕ
+SETS = 3 * SET
+
+-- a flag: a space, and a digit
+abbrev pub FLAG : ℕ
+FLAG = 2
+
+-- ---- the parts of an entry
 
 -- the four ids of a kind
 abbrev pub IDS : ℕ

@@ -3,7 +3,7 @@ use Rattle.std.specs.Prelude.{ℕ, ◌+◌, ◌/◌, ◌%◌, List, [], ◌∷�
 use Rattle.cred_ids.specs.declared.id.Ids4.{Ids4}
 use Rattle.cred_event.specs.declared.answer.Told.{Told}
 use Rattle.cred_event.specs.declared.answer.Told.TheVariants.{Ids, Caps, Groups, Bits, Flag, File}
-use Rattle.cred_pen.specs.Numbers.{ids_text, set_text, flag_text}
+use Rattle.cred_report.specs.Numbers.{ids_text, set_text, flag_text}
 
 -- the four ids of a kind, each after a space
 abbrev pub ids4_text : Ids4 → List ℕ

@@ -1,14 +1,16 @@
 //! Answers.
 ghost use Rattle.std.specs.Prelude.{◌≡◌, ◌≤◌, ◌+◌, ◌++◌, OnOk, codes, decimal, length};
 ghost use Rattle.cred_report.specs.Answers.{exists_text, too_many_text, cause_text};
-ghost use Rattle.cred_pen.specs.Numbers.{set_text};
+ghost use Rattle.cred_report.specs.Numbers.{set_text};
 ghost use Rattle.cred_report.specs.Answers.{answer_text};
 ghost use Rattle.cred_report.specs.Room.{WORD, SEALED, GAINS, ANSWER, BEFORE_ANSWER};
 
+use crate::numbers::prepend_sets;
+use crate::pen::Pen;
 use crate::told::prepend_told;
+use crate::words::{prepend_long, prepend_number, prepend_word};
 use cred_event::{AbortCause, Answer, Counted, Named};
 use cred_ids::NoMemory;
-use cred_pen::{Pen, prepend_long, prepend_number, prepend_sets, prepend_word};
 use cred_record::Gains;
 
 /// The words before the number of a thing that stands already.

@@ -1,14 +1,15 @@
 //! The calls that set ids, and the changes of a prepared credential.
 ghost use Rattle.std.specs.Prelude.{◌≡◌, ◌≤◌, ◌+◌, ◌*◌, ◌++◌, OnOk, length};
-ghost use Rattle.cred_pen.specs.Numbers.{arg_text};
+ghost use Rattle.cred_report.specs.Numbers.{arg_text};
 ghost use Rattle.cred_report.specs.Calls.{call_text, adjust_text, change_text};
-ghost use Rattle.cred_pen.specs.Room.{ARG};
-ghost use Rattle.cred_report.specs.Room.{CALL, BEFORE_CALL};
+ghost use Rattle.cred_report.specs.Room.{ARG, CALL, BEFORE_CALL};
 
+use crate::numbers::{prepend_arg, prepend_ids, prepend_sets};
+use crate::pen::Pen;
 use crate::questions::prepend_file;
+use crate::words::{prepend_number, prepend_word};
 use cred_event::Change;
 use cred_ids::{Arg, Kind, NoMemory};
-use cred_pen::{Pen, prepend_arg, prepend_ids, prepend_number, prepend_sets, prepend_word};
 use cred_record::{AdjCall, IdCall};
 use cred_script::Script;
 

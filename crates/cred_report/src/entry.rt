@@ -4,9 +4,10 @@ ghost use Rattle.cred_report.specs.Text.{entry_text, text};
 
 use crate::answers::prepend_answer;
 use crate::events::prepend_event;
+use crate::pen::{PARTS, Pen};
+use crate::words::prepend_word;
 use cred_event::Entry;
 use cred_ids::{Bytes as Text, NoMemory};
-use cred_pen::{PARTS, Pen, prepend_word};
 use cred_script::Script;
 use std::alloc::Global;
 

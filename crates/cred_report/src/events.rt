@@ -1,15 +1,16 @@
 //! Events.
-ghost use Rattle.std.specs.Prelude.{◌≡◌, ◌≤◌, ◌+◌, ◌++◌, OnOk, codes, decimal, length};
+ghost use Rattle.std.specs.Prelude.{◌≡◌, ◌≤◌, ◌+◌, ◌++◌, OnOk, codes, decimal};
 ghost use Rattle.cred_report.specs.Calls.{call_text};
 ghost use Rattle.cred_report.specs.Events.{take_text, trace_text, event_text};
 ghost use Rattle.cred_report.specs.Room.{EVENT, BEFORE_EVENT};
 
 use crate::calls::{prepend_call, prepend_change};
 use crate::file_events::{prepend_chmod, prepend_chown, prepend_set_attr, prepend_stat};
+use crate::pen::Pen;
 use crate::questions::{prepend_file, prepend_letters, prepend_query};
+use crate::words::{prepend_label, prepend_number, prepend_three, prepend_two, prepend_word};
 use cred_event::{Change, Event, Mode, Query, Side};
 use cred_ids::{Id, NoMemory};
-use cred_pen::{Pen, prepend_label, prepend_number, prepend_three, prepend_two, prepend_word};
 use cred_record::{IdCall, Want};
 use cred_script::Script;
 

@@ -2,13 +2,15 @@
 ghost use Rattle.std.specs.Prelude.{◌≡◌, ◌≤◌, ◌<◌, ◌+◌, ◌++◌, OnOk, slice_index};
 ghost use Rattle.hex.specs.Hex.{encode_lower, lower_digits};
 ghost use Rattle.cred_report.specs.Events.{event_text};
-ghost use Rattle.cred_report.specs.Room.{EVENT, BEFORE_EVENT, BEFORE_FILE};
+ghost use Rattle.cred_report.specs.Room.{EVENT, BEFORE_EVENT};
 
+use crate::numbers::prepend_arg;
+use crate::pen::{PARTS, Pen};
 use crate::questions::prepend_file;
 use crate::told::prepend_mode;
+use crate::words::{prepend_number, prepend_word};
 use cred_event::Event;
 use cred_ids::{Arg, NoMemory};
-use cred_pen::{PARTS, Pen, prepend_arg, prepend_number, prepend_word};
 use cred_record::Attr;
 use cred_script::Script;
 

@@ -3,9 +3,10 @@ ghost use Rattle.std.specs.Prelude.{◌≡◌, ◌≤◌, ◌+◌, ◌++◌, OnO
 ghost use Rattle.cred_report.specs.Questions.{file_text, want_text, query_text};
 ghost use Rattle.cred_report.specs.Room.{LETTERS, CALL, BEFORE_CALL, BEFORE_FILE};
 
+use crate::pen::{PARTS, Pen};
+use crate::words::{prepend_number, prepend_word};
 use cred_event::Query;
 use cred_ids::NoMemory;
-use cred_pen::{PARTS, Pen, prepend_number, prepend_word};
 use cred_record::Want;
 use cred_script::Script;
 

@@ -4,12 +4,11 @@ ghost use Rattle.cred_report.specs.Told as spec;
 ghost use Rattle.cred_report.specs.Told.{ids4_text, mode_text, told_text};
 ghost use Rattle.cred_report.specs.Room.{IDS, MODE, ANSWER, BEFORE_ANSWER};
 
+use crate::numbers::{prepend_flag, prepend_ids, prepend_set, prepend_sets};
+use crate::pen::Pen;
+use crate::words::{prepend_number, prepend_two, prepend_word};
 use cred_event::Told;
 use cred_ids::{Ids4, NoMemory};
-use cred_pen::{
-    Pen, prepend_flag, prepend_ids, prepend_number, prepend_set, prepend_sets, prepend_two,
-    prepend_word,
-};
 
 /// Writes the four ids of a kind.
 fn prepend_ids4(out: &mut Pen, ids: Ids4)

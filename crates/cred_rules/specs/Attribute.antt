@@ -106,7 +106,7 @@ abbrev pub set_in : ℕ → ℕ → Caps
 set_in low high = meet (high * 2 ^ 32 + low % 2 ^ 32) full
 
 -- what bytes of this version say, with this root id
-abbrev pub said : List ℕ → ℕ → ℕ → Attribute
+abbrev pub said : List ℕ → (version root : ℕ) → Attribute
 said bytes version root = record {
   version = version;
   perm = set_in (perm_low bytes) (high_in version (perm_high bytes));
@@ -116,7 +116,7 @@ said bytes version root = record {
 }
 
 -- so many bytes with this revision
-abbrev pub has_form : List ℕ → ℕ → ℕ → Bool
+abbrev pub has_form : List ℕ → (size revision : ℕ) → Bool
 has_form bytes size revision = (length bytes == size) && (revision_of bytes == revision)
 
 -- the attribute that the bytes spell, or none: `Spells` as a function, so that a rule can compute

@@ -15,7 +15,8 @@ use Rattle.cred_record.specs.File.{File}
 use Rattle.cred_rules.specs.Access.{in_group}
 use Rattle.cred_rules.specs.SetId.{is_given}
 use Rattle.cred_rules.specs.Attribute.{attribute_of}
-use Rattle.cred_rules.specs.Modes.{SET_USER, SET_GROUP, GROUP_EXECUTE, EXECUTE, has_any, without}
+use Rattle.cred_rules.specs.Modes.{SET_USER, SET_GROUP, GROUP_EXECUTE, EXECUTE, has_any}
+use Rattle.cred_rules.specs.Modes.{without_bits}
 
 -- ---- chown(2)
 
@@ -66,8 +67,8 @@ strips f owner group = gives_one owner group && is_regular f.kind && has_any f.m
 -- S_ISGID bit indicates mandatory locking, and is not cleared by a chown()."
 abbrev pub stripped : ℕ → ℕ
 stripped mode =
-    if has_any mode GROUP_EXECUTE then without (without mode SET_USER) SET_GROUP
-    else without mode SET_USER
+    if has_any mode GROUP_EXECUTE then without_bits (without_bits mode SET_USER) SET_GROUP
+    else without_bits mode SET_USER
 
 unfoldable pub chowned : File → Arg → Arg → File
 chowned f owner group = record f {
@@ -95,7 +96,7 @@ may_chmod c f = owns c f || capable c FOWNER
 -- be returned."
 abbrev pub given_mode : Credential → File → ℕ → ℕ
 given_mode c f mode =
-    if capable c FSETID || in_group c f.group then mode else without mode SET_GROUP
+    if capable c FSETID || in_group c f.group then mode else without_bits mode SET_GROUP
 
 unfoldable pub chmod : Credential → File → ℕ → Result File Denial
 chmod c f mode =

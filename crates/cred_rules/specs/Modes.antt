@@ -23,5 +23,5 @@ abbrev pub has_any : ℕ → ℕ → Bool
 has_any mode bits = not (bit_and mode bits == 0)
 
 -- the mode with these bits unset, and every other as it was
-abbrev pub without : ℕ → ℕ → ℕ
-without mode bits = bit_and mode (LAST_MODE - bits)
+abbrev pub without_bits : ℕ → ℕ → ℕ
+without_bits mode bits = bit_and mode (LAST_MODE - bits)

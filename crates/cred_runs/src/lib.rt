@@ -1,5 +1,7 @@
-//! What `lanes` does, over its input and its output: it reads a script, runs its lanes as threads,
-//! and writes the report of the journal that came about.
+//! `lanes` over its input and its output. Read it as part of `cred_commands`.
+//!
+//! It reads a script, runs its lanes as threads, and writes the report of the journal that came
+//! about.
 #![tactic(auto)]
 
 mod report;

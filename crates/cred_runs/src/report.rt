@@ -8,7 +8,7 @@ ghost use Rattle.cred_said.specs.Leaves.{IsWriting};
 
 use cred_event::Entry;
 use cred_io::Sink;
-use cred_pen::Pen;
+use cred_report::Pen;
 use cred_said::{Status, finish, write_last};
 use cred_script::Script;
 use std::alloc::Global;

@@ -14,7 +14,7 @@ use Rattle.cred_model.specs.Journal.{IsLegal}
 use Rattle.cred_model.specs.Script.{Script, SetupFirst}
 use Rattle.cred_report.specs.Text.{text}
 use Rattle.cred_grammar.specs.Grammar.{script_of}
-use Rattle.cred_grammar.specs.Read.{ReadsAs}
+use Rattle.cred_grammar.specs.ReadAnswers.{ReadsAs}
 use Rattle.cred_grammar.specs.declared.refusal.ScriptRefusal.{ScriptRefusal}
 use Rattle.cred_grammar.specs.declared.refusal.ScriptRefusal.TheVariants as refusal
 use Rattle.cred_spelling.specs.declared.reason.Reason.{Reason}

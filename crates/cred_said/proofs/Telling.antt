@@ -28,7 +28,7 @@ told its text (Err sink.Memory) answer a b is all prefix same = record {
   prefix = prefix;
 }
 
--- what holds of the text's status, and of a fault and of want of memory
+-- what holds of the text's status, and of a fault and of running out of memory
 pub by_end : (P : Status → Type 0) (its answer : Status) → EndsAs its answer → P its → P status.WriteFault → P status.Memory → P answer
 by_end P its answer (inl e) own fault memory = subst P (sym e) own
 by_end P its answer (inr (inl e)) own fault memory = subst P (sym e) fault

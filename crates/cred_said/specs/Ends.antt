@@ -98,8 +98,8 @@ abbrev pub WritesStart : Option (List ℕ) → Option (List ℕ) → List ℕ �
 WritesStart before after input = BeginsOne IsSequence before after input
 
 -- The statuses that an input may have: which of Done, Bad and TooLarge it is, the input alone
--- decides, and nothing but a fault or lack of memory takes their place. Only what is within the
--- limits has a text that can fail to be written.
+-- decides, and nothing but a fault or running out of memory takes their place. Only what is
+-- within the limits has a text that can fail to be written.
 abbrev pub Suits : List ℕ → Status → Type 0
 Suits input status.Done =
     IsWithinLimits input × MatchResult (script_of input) (λ script. ⊤) (λ bad. ⊥)
@@ -112,7 +112,7 @@ Suits input status.WriteFault = IsWithinLimits input
 Suits input status.Memory = ⊤
 Suits input status.NotLegal = ⊥
 
--- The statuses of a text: nothing but a fault or lack of memory takes its place.
+-- The statuses of a text: nothing but a fault or running out of memory takes its place.
 abbrev pub IsForText : Status → Type 0
 IsForText status.Done = ⊤
 IsForText status.WriteFault = ⊤

@@ -10,7 +10,8 @@ use Rattle.cred_said.specs.declared.said.Said.{Said}
 use Rattle.cred_said.specs.declared.status.Status.{Status}
 use Rattle.cred_said.specs.declared.status.Status.TheVariants as status
 
--- The statuses of a text that has this one: nothing but a fault or lack of memory takes its place.
+-- The statuses of a text that has this one: nothing but a fault or running out of memory takes its
+-- place.
 abbrev pub EndsAs : Status → Status → Type 0
 EndsAs its answer =
     (answer ≡ its) ⊎ ((answer ≡ status.WriteFault) ⊎ (answer ≡ status.Memory))

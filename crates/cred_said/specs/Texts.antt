@@ -5,7 +5,7 @@ use Rattle.cred_filecap.specs.Refusals.{attr_refusal_of}
 use Rattle.cred_filecap.specs.declared.refusal.AttrRefusal.{AttrRefusal}
 use Rattle.cred_filecap.specs.declared.refusal.AttrRefusal.TheVariants.{BadLength, BadRevision}
 use Rattle.cred_generate.specs.declared.summing.Summary.{Summary}
-use Rattle.cred_pen.specs.Numbers.{set_text, flag_text}
+use Rattle.cred_report.specs.Numbers.{set_text, flag_text}
 use Rattle.cred_spelling.specs.declared.reason.Reason.{Reason}
 use Rattle.cred_spelling.specs.declared.reason.Reason.TheVariants.{Byte, Word, Count, Order, Name}
 use Rattle.cred_spelling.specs.declared.reason.Reason.TheVariants.{Lane}

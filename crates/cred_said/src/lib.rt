@@ -1,5 +1,5 @@
-//! What every command has of its two ends: how much is read, what is said in place of a report,
-//! what is written, and how it ended.
+//! What every command says and how it ends: texts in place of a report, statuses, what a failed
+//! write leaves. Read it as part of `cred_commands`.
 //!
 //! `specs/Ends` and `Leaves` say what a command that runs a script leaves by each status, `Cuts`
 //! what of a journal that isn't written whole, `Telling` and `Texts` what is said, and `Statuses`

@@ -7,8 +7,7 @@ ghost use Rattle.cred_report.specs.Text.{text};
 
 use cred_event::Entry;
 use cred_io::{Sink, SinkRefusal, write_all};
-use cred_pen::Pen;
-use cred_report::prepend_all;
+use cred_report::{Pen, prepend_all};
 use cred_script::Script;
 
 /// Where the entries end that are written together with the one at this place.

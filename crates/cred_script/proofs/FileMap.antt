@@ -1,5 +1,6 @@
 -- What a map from names gives and leaves, as a list of named files.
-use Rattle.std.proofs.Common.{◌≡◌, ℕ, zero, ◌+◌, ◌<◌, nat_lt, true, false, not, cond, List, [], ◌∷◌, ◌++◌, length, position, slice_get, Option, None, Some, Global, String, string_bytes, refl, sym, ap, ◌∙◌, subst, arith, suc}
+use Rattle.std.proofs.Common.{◌≡◌, ℕ, zero, ◌+◌, ◌<◌, nat_lt, true, false, not, cond, List, [], ◌∷◌, ◌++◌, length, position, slice_get, Option, None, Some}
+use Rattle.std.proofs.Common.{Global, String, string_bytes, refl, sym, ap, ◌∙◌, subst, arith, suc}
 use Rattle.std.specs.List.{AllByRecursion, IsDistinct, prefix_len}
 use Rattle.std.specs.Map.{keys_of}
 use Rattle.std.specs.Str.{bytes_eq}

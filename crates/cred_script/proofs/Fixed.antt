@@ -2,7 +2,7 @@
 use Rattle.std.proofs.Common.{ℕ, List}
 use Rattle.std.specs.List.{All}
 use Rattle.std.proofs.lemmas.List.Elements.{All-weaker}
-use Rattle.cred_model.specs.Changing.{ChangesInSetup}
+use Rattle.cred_model.specs.FileChanges.{ChangesInSetup}
 use Rattle.cred_model.specs.Script.{Line, Namespace}
 use Rattle.cred_script.specs.Sound.{IsSoundLine}
 

@@ -4,7 +4,7 @@ use Rattle.std.specs.List.{cons_option}
 use Rattle.cred_ids.specs.Limits.{LINE_LIMIT, LAST_LANE, LAST_NUMBER}
 use Rattle.cred_model.specs.Script.{Line, Namespace, SetupBefore}
 use Rattle.cred_model.specs.Named.{IsContentOf}
-use Rattle.cred_model.specs.Changing.{ChangesInSetup}
+use Rattle.cred_model.specs.FileChanges.{ChangesInSetup}
 use Rattle.cred_script.specs.Acting.{actor}
 use Rattle.cred_names.specs.Labels.{labels}
 

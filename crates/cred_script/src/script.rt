@@ -4,7 +4,7 @@ ghost use Rattle.std.specs.Option.{option_map};
 ghost use Rattle.cred_ids.specs.Limits.{LINE_LIMIT, FILES};
 ghost use Rattle.cred_ids.specs.Limits.{LAST_LANE};
 ghost use Rattle.cred_model.specs.Named.{IsContentOf};
-ghost use Rattle.cred_model.specs.Changing.{FixesFiles};
+ghost use Rattle.cred_model.specs.FileChanges.{FixesFiles};
 ghost use Rattle.cred_model.specs.Script.{SetupFirst, chain_in, reaches};
 ghost use Rattle.cred_script.specs.Files as spec;
 ghost use Rattle.cred_script.specs.Lanes.{lanes};

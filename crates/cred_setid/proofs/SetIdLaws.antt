@@ -1,5 +1,6 @@
 -- The laws of the calls that set ids, by cases on the call.
-use Rattle.std.proofs.Common.{◌≡◌, ℕ, ◌==◌, ◌&&◌, ◌||◌, not, nat_lt, length, Bool, true, false, List, [], ◌∷◌, Contains, Result, Ok, Err, if◌then◌else◌, refl, sym, ap, subst, ◌∙◌, arith}
+use Rattle.std.proofs.Common.{◌≡◌, ℕ, ◌==◌, ◌&&◌, ◌||◌, not, nat_lt, length, Bool, true, false, List, [], ◌∷◌, Contains, Result, Ok, Err, if◌then◌else◌, refl}
+use Rattle.std.proofs.Common.{sym, ap, subst, ◌∙◌, arith}
 use Rattle.std.proofs.lemmas.Bool.{eqb-true}
 use Rattle.std.proofs.lemmas.Nat.{and_le_l}
 use Rattle.std.proofs.lemmas.Map.Views.{Contains-from_any}
@@ -19,7 +20,8 @@ use Rattle.cred_record.specs.declared.refusal.Denial.{Denial}
 use Rattle.cred_record.specs.declared.refusal.Denial.TheVariants.{Perm, Invalid}
 use Rattle.cred_record.specs.Credential.{Credential, capable}
 use Rattle.cred_rules.specs.Fix.{clears_permitted, fixed, with_user_ids}
-use Rattle.cred_rules.specs.SetId.{id_or, is_one_of, is_given, is_other, three, permitted, after_setuid, after_setreuid, after_setresuid, after_seteuid, after_setgroups, for_users, for_groups}
+use Rattle.cred_rules.specs.SetId.{id_or, is_one_of, is_given, is_other, three, permitted, after_setuid, after_setreuid, after_setresuid, after_seteuid}
+use Rattle.cred_rules.specs.SetId.{after_setgroups, for_users, for_groups}
 use Rattle.cred_setid.specs.Laws.{AreOwn, UserIdsStayOwn, GroupIdsStayOwn, PermittedNeverGrows}
 
 -- ---- the ids of a caller
@@ -154,13 +156,15 @@ for_groups-uid : (c d : Credential) (r : Result Ids4 Denial) → for_groups c r 
 for_groups-uid c d (Ok ids) same = let is : record c { gid = ids } ≡ d = cc in ap (λ e. e.uid) is
 for_groups-uid c d (Err e) same = cc
 
-setgroups-cases : (P : Credential → Type 0) (able many : Bool) (new d : Credential) → P new → (if not able then Err Perm else if many then Err Invalid else Ok new) ≡ Ok d → P d
+setgroups-cases : (P : Credential → Type 0) (able many : Bool) (new d : Credential) → P new
+    → (if not able then Err Perm else if many then Err Invalid else Ok new) ≡ Ok d → P d
 setgroups-cases P false many new d holds same = cc
 setgroups-cases P true true new d holds same = cc
 setgroups-cases P true false new d holds same = let is : new ≡ d = cc in subst P is holds
 
 -- what setgroups gives is the credential with other groups
-pub setgroups-gives : (P : Credential → Type 0) (c d : Credential) (list : List ℕ) → P (record c { groups = in_order list }) → after_setgroups c list ≡ Ok d → P d
+pub setgroups-gives : (P : Credential → Type 0) (c d : Credential) (list : List ℕ) → P (record c { groups = in_order list }) → after_setgroups c list ≡ Ok d
+    → P d
 unfolding after_setgroups
 setgroups-gives P c d list holds same =
     setgroups-cases P (capable c SETGID) (nat_lt GROUP_LIMIT (length list)) (record c { groups = in_order list }) d holds same
@@ -168,10 +172,14 @@ setgroups-gives P c d list holds same =
 -- ---- the laws
 
 pub user_ids_stay_own : UserIdsStayOwn
-user_ids_stay_own c d (SetUid a) without same = for_users-gives (AreOwn c.uid) c d _ (λ new is. setuid-own c.uid new a (ap (λ able. after_setuid able c.uid a) (sym without) ∙ is)) same
-user_ids_stay_own c d (SetEuid a) without same = for_users-gives (AreOwn c.uid) c d _ (λ new is. seteuid-own c.uid new a (ap (λ able. after_seteuid able c.uid a) (sym without) ∙ is)) same
-user_ids_stay_own c d (SetReuid a b) without same = for_users-gives (AreOwn c.uid) c d _ (λ new is. setreuid-own c.uid new a b (ap (λ able. after_setreuid able c.uid a b) (sym without) ∙ is)) same
-user_ids_stay_own c d (SetResuid a b s) without same = for_users-gives (AreOwn c.uid) c d _ (λ new is. setresuid-own c.uid new a b s (ap (λ able. after_setresuid able c.uid a b s) (sym without) ∙ is)) same
+user_ids_stay_own c d (SetUid a) without same =
+    for_users-gives (AreOwn c.uid) c d _ (λ new is. setuid-own c.uid new a (ap (λ able. after_setuid able c.uid a) (sym without) ∙ is)) same
+user_ids_stay_own c d (SetEuid a) without same =
+    for_users-gives (AreOwn c.uid) c d _ (λ new is. seteuid-own c.uid new a (ap (λ able. after_seteuid able c.uid a) (sym without) ∙ is)) same
+user_ids_stay_own c d (SetReuid a b) without same =
+    for_users-gives (AreOwn c.uid) c d _ (λ new is. setreuid-own c.uid new a b (ap (λ able. after_setreuid able c.uid a b) (sym without) ∙ is)) same
+user_ids_stay_own c d (SetResuid a b s) without same =
+    for_users-gives (AreOwn c.uid) c d _ (λ new is. setresuid-own c.uid new a b s (ap (λ able. after_setresuid able c.uid a b s) (sym without) ∙ is)) same
 user_ids_stay_own c d (SetGid a) without same = subst (AreOwn c.uid) (for_groups-uid c d _ same) (AreOwn-itself c.uid)
 user_ids_stay_own c d (SetEgid a) without same = subst (AreOwn c.uid) (for_groups-uid c d _ same) (AreOwn-itself c.uid)
 user_ids_stay_own c d (SetRegid a b) without same = subst (AreOwn c.uid) (for_groups-uid c d _ same) (AreOwn-itself c.uid)
@@ -183,10 +191,14 @@ group_ids_stay_own c d (SetUid a) without same = subst (AreOwn c.gid) (for_users
 group_ids_stay_own c d (SetEuid a) without same = subst (AreOwn c.gid) (for_users-gid c d _ same) (AreOwn-itself c.gid)
 group_ids_stay_own c d (SetReuid a b) without same = subst (AreOwn c.gid) (for_users-gid c d _ same) (AreOwn-itself c.gid)
 group_ids_stay_own c d (SetResuid a b s) without same = subst (AreOwn c.gid) (for_users-gid c d _ same) (AreOwn-itself c.gid)
-group_ids_stay_own c d (SetGid a) without same = for_groups-gives (AreOwn c.gid) c d _ (λ new is. setuid-own c.gid new a (ap (λ able. after_setuid able c.gid a) (sym without) ∙ is)) same
-group_ids_stay_own c d (SetEgid a) without same = for_groups-gives (AreOwn c.gid) c d _ (λ new is. seteuid-own c.gid new a (ap (λ able. after_seteuid able c.gid a) (sym without) ∙ is)) same
-group_ids_stay_own c d (SetRegid a b) without same = for_groups-gives (AreOwn c.gid) c d _ (λ new is. setreuid-own c.gid new a b (ap (λ able. after_setreuid able c.gid a b) (sym without) ∙ is)) same
-group_ids_stay_own c d (SetResgid a b s) without same = for_groups-gives (AreOwn c.gid) c d _ (λ new is. setresuid-own c.gid new a b s (ap (λ able. after_setresuid able c.gid a b s) (sym without) ∙ is)) same
+group_ids_stay_own c d (SetGid a) without same =
+    for_groups-gives (AreOwn c.gid) c d _ (λ new is. setuid-own c.gid new a (ap (λ able. after_setuid able c.gid a) (sym without) ∙ is)) same
+group_ids_stay_own c d (SetEgid a) without same =
+    for_groups-gives (AreOwn c.gid) c d _ (λ new is. seteuid-own c.gid new a (ap (λ able. after_seteuid able c.gid a) (sym without) ∙ is)) same
+group_ids_stay_own c d (SetRegid a b) without same =
+    for_groups-gives (AreOwn c.gid) c d _ (λ new is. setreuid-own c.gid new a b (ap (λ able. after_setreuid able c.gid a b) (sym without) ∙ is)) same
+group_ids_stay_own c d (SetResgid a b s) without same =
+    for_groups-gives (AreOwn c.gid) c d _ (λ new is. setresuid-own c.gid new a b s (ap (λ able. after_setresuid able c.gid a b s) (sym without) ∙ is)) same
 group_ids_stay_own c d (SetGroups list) without same = setgroups-gives (λ e. AreOwn c.gid e.gid) c d list (AreOwn-itself c.gid) same
 
 -- ---- the permitted set

@@ -1,5 +1,5 @@
 //! The nine calls that set ids.
-ghost use Rattle.std.specs.Prelude.{◌≡◌, IfOk};
+ghost use Rattle.std.specs.Prelude.{◌≡◌};
 ghost use Rattle.cred_caps.specs.Caps.{Caps};
 ghost use Rattle.cred_record.specs.Credential.{Credential, AreValidSets};
 ghost use Rattle.cred_rules.specs.SetId.{after_setgroups, for_groups, for_users, set_id};

@@ -1,5 +1,5 @@
-//! The calls that set ids: the nine calls on real, effective and saved ids and on groups, and the
-//! calls on filesystem ids.
+//! setuid(2), setresuid(2), setgroups(2) and the other calls that set ids, and what they do to the
+//! capability sets.
 #![tactic(auto)]
 
 mod calls;

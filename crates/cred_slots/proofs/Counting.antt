@@ -1,5 +1,6 @@
 -- How often a test passes in what rows count.
-use Rattle.std.proofs.Common.{◌≡◌, ◌≢◌, ℕ, zero, suc, ◌+◌, ◌*◌, ◌<◌, ◌≤◌, ◌||◌, Bool, true, false, cond, List, [], ◌∷◌, ◌++◌, length, refl, sym, inl, inr, arith, nat_lt}
+use Rattle.std.proofs.Common.{◌≡◌, ◌≢◌, ℕ, zero, suc, ◌+◌, ◌*◌, ◌<◌, ◌≤◌, ◌||◌, Bool, true, false, cond, List, [], ◌∷◌, ◌++◌, length, refl, sym, inl, inr}
+use Rattle.std.proofs.Common.{arith, nat_lt}
 use Rattle.std.proofs.Common.{slice_set, replicate}
 use Rattle.std.specs.List.{count_by, sum_by, list_any}
 use Rattle.std.proofs.lemmas.List.Sums.{sum_by-cons, sum_by-append, sum_by-set, get_or-le-sum_by}
@@ -49,7 +50,8 @@ count-repeated count test (row ∷ rows) =
     (sym (sum_by-cons (weight count test) row rows))
 
 pub count-repeated-set : (count : Row → ℕ) (test : ℕ → Bool) (rows : List Row) (slot : ℕ) (row : Row) → slot < length rows
-    → count_by test (repeated count (slice_set rows slot row)) + weight count test (row_at rows slot) ≡ count_by test (repeated count rows) + weight count test row
+    → count_by test (repeated count (slice_set rows slot row)) + weight count test (row_at rows slot)
+    ≡ count_by test (repeated count rows) + weight count test row
 count-repeated-set count test rows slot row within =
     rw (count-repeated count test (slice_set rows slot row), count-repeated count test rows)
     (sum_by-set (weight count test) rows slot row _ within)
@@ -57,11 +59,13 @@ count-repeated-set count test rows slot row within =
 pub length-repeated-set : (count : Row → ℕ) (rows : List Row) (slot : ℕ) (row : Row) → slot < length rows
     → length (repeated count (slice_set rows slot row)) + count (row_at rows slot) ≡ length (repeated count rows) + count row
 length-repeated-set count rows slot row within =
-    omega (arith, count-repeated-set count (λ _. true) rows slot row within, count-all (repeated count (slice_set rows slot row)), count-all (repeated count rows))
+    omega
+    (arith, count-repeated-set count (λ _. true) rows slot row within, count-all (repeated count (slice_set rows slot row)), count-all (repeated count rows))
 
 pub count-le-length : (count : Row → ℕ) (rows : List Row) (slot : ℕ) → slot < length rows → count (row_at rows slot) ≤ length (repeated count rows)
 count-le-length count rows slot within =
-    omega (arith, get_or-le-sum_by (weight count (λ _. true)) rows slot (row_at [] 0) within, count-repeated count (λ _. true) rows, count-all (repeated count rows))
+    omega
+    (arith, get_or-le-sum_by (weight count (λ _. true)) rows slot (row_at [] 0) within, count-repeated count (λ _. true) rows, count-all (repeated count rows))
 
 pub sum_zero : (f : Row → ℕ) (rows : List Row) → ((i : ℕ) → i < length rows → f (row_at rows i) ≡ 0) → sum_by f rows ≡ 0
 sum_zero f [] each = refl
@@ -75,7 +79,13 @@ sum_only f [] slot within others = absurd (omega arith)
 sum_only f (row ∷ rows) zero within others =
     omega (arith, sum_by-cons f row rows, sum_zero f rows (λ i h. others (suc i) (omega arith) (omega arith)))
 sum_only f (row ∷ rows) (suc slot) within others =
-    omega (arith, sum_by-cons f row rows, others 0 (omega arith) (omega arith), sum_only f rows slot (omega arith) (λ i h ne. others (suc i) (omega arith) (omega arith)))
+    omega (
+      arith,
+      sum_by-cons f row rows,
+      others 0 (omega arith) (omega arith),
+      sum_only f rows slot (omega arith)
+          (λ i h ne. others (suc i) (omega arith) (omega arith)),
+    )
 
 -- some row adds something
 pub sum_some : (f : Row → ℕ) (rows : List Row) → 0 < sum_by f rows → (i : ℕ) × (i < length rows) × (0 < f (row_at rows i))

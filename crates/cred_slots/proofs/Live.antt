@@ -1,16 +1,18 @@
 -- Which slots are live, by the flags.
-use Rattle.std.proofs.Common.{◌≡◌, ◌≢◌, ◌⊎◌, ℕ, zero, suc, ◌+◌, ◌<◌, ◌≤◌, ◌==◌, ◌||◌, Bool, true, false, not, cond, List, [], length, get_or, map, find, refl, sym, ap, ◌∙◌, subst, inl, inr, arith, nat_lt, Option, None, Some, is_some, slice_get}
+use Rattle.std.proofs.Common.{◌≡◌, ◌≢◌, ◌⊎◌, ℕ, zero, suc, ◌+◌, ◌<◌, ◌≤◌, ◌==◌, ◌||◌, Bool, true, false, not, cond, List, [], length, get_or, map, find, refl}
+use Rattle.std.proofs.Common.{sym, ap, ◌∙◌, subst, inl, inr, arith, nat_lt, Option, None, Some, is_some, slice_get}
 use Rattle.std.specs.List.{count_by, list_any, range_with_len}
 use Rattle.std.proofs.lemmas.List.FromFn.{get_or-map-range_with_len}
 use Rattle.std.proofs.lemmas.List.Folds.{list_any-append}
 use Rattle.std.proofs.lemmas.Bool.{cases_lt}
 use Rattle.std.proofs.lemmas.Bool.Decides.{nat_tests}
 use Rattle.cred_slots.specs.declared.row.Row.{Row}
-use Rattle.cred_slots.specs.Table.{Table, slots, is_sealed_in, is_live_in, least_free_in, swept_table, free_in}
+use Rattle.cred_slots.specs.Table.{Table, is_sealed_in, is_live_in, least_free_in, swept_table, free_in}
 use Rattle.cred_slots.specs.Flags.{in_either, first_unset}
 use Rattle.cred_slots.specs.Rows.{row_at, repeated, held_in, held_count, late_count, AreSoundRows}
 use Rattle.cred_slots.proofs.Counting.{weight, any-count, count-repeated, sum_only}
 use Rattle.cred_slots.proofs.Tables.{room-free, room-full}
+use Rattle.cred_ids.specs.Limits.{slots}
 
 -- Two tests that agree below the end find the same.
 pub find-same : (p q : ℕ → Bool) (a n : ℕ) → ((k : ℕ) → a ≤ k → k < a + n → p k ≡ q k) → find p (range_with_len a n) ≡ find q (range_with_len a n)
@@ -193,7 +195,8 @@ unfolding slots
 next-is {rows = rows} {sealed = sealed} {deferred = deferred} {kept = kept} {used = used} {late = late} {spare = spare} s slot takes =
     by_least (least_free_in (seen rows sealed deferred kept spare)) refl
   where
-    by_least : (o : Option ℕ) → least_free_in (seen rows sealed deferred kept spare) ≡ o → IsNext (seen rows sealed deferred kept spare) (row_at rows slot).late slot
+    by_least : (o : Option ℕ) → least_free_in (seen rows sealed deferred kept spare) ≡ o
+        → IsNext (seen rows sealed deferred kept spare) (row_at rows slot).late slot
     by_least (Some n) at =
         let t = seen rows sealed deferred kept spare in
         let here : least_free_in t ≡ Some slot = sym (ap least_free_in (room-free t (ap is_some at))) ∙ takes in

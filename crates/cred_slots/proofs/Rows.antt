@@ -1,10 +1,11 @@
 -- Rows of which nothing is late.
-use Rattle.std.proofs.Common.{◌≡◌, ℕ, zero, suc, ◌<◌, List, [], ◌∷◌, ◌++◌, length, get_or, map, replicate, refl, ap, ◌∙◌, sym, arith, Bool, false, nat_lt, take, drop}
+use Rattle.std.proofs.Common.{◌≡◌, ℕ, zero, suc, ◌<◌, List, [], ◌∷◌, ◌++◌, length, get_or, map, replicate, refl, ap, ◌∙◌, sym, arith, Bool, false, nat_lt, take}
+use Rattle.std.proofs.Common.{drop}
 use Rattle.std.specs.List.{count_by}
 use Rattle.std.proofs.lemmas.List.{length-map, take-append-le, take_all}
 use Rattle.std.proofs.lemmas.List.FromFn.{length-map-range_with_len, get_or-map-range_with_len}
 use Rattle.cred_slots.specs.declared.row.Row.{Row}
-use Rattle.cred_slots.specs.Table.{slots}
+use Rattle.cred_ids.specs.Limits.{slots}
 use Rattle.cred_slots.specs.Rows.{row_at, repeated, held_in, late_in, held_count, late_count, without_late, unused, AreSoundRows}
 
 pub map-is : (f : Row → Row) (xs ys : List Row) → length ys ≡ length xs → ((k : ℕ) → k < length xs → row_at ys k ≡ f (row_at xs k)) → ys ≡ map f xs
@@ -64,7 +65,8 @@ pub repeated-replicate : (count : Row → ℕ) (n : ℕ) → count unused ≡ 0 
 repeated-replicate count zero none = refl
 repeated-replicate count (suc n) none = rw none (repeated-replicate count n none)
 
-pub new-sound : (sealable referable : ℕ) → AreSoundRows (replicate 256 unused) [] [] (map (λ _. false) slots) (map (λ _. false) slots) (map (λ _. false) slots) 0 0 sealable referable
+pub new-sound : (sealable referable : ℕ)
+    → AreSoundRows (replicate 256 unused) [] [] (map (λ _. false) slots) (map (λ _. false) slots) (map (λ _. false) slots) 0 0 sealable referable
 new-sound sealable referable = record {
   all_rows = refl;
   all_kept = flags_long;

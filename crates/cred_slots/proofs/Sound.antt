@@ -1,5 +1,6 @@
 -- What each change keeps of a table's parts.
-use Rattle.std.proofs.Common.{◌≡◌, ◌⊎◌, ℕ, zero, suc, ◌+◌, ◌-◌, ◌<◌, ◌≤◌, ◌==◌, Bool, true, false, cond, List, [], ◌∷◌, ◌++◌, length, get_or, refl, sym, ap, ◌∙◌, subst, inl, inr, arith, nat_lt, Some, slice_get, slice_set, length-append, length-set, get_or-set_same, get_or-set_other}
+use Rattle.std.proofs.Common.{◌≡◌, ◌⊎◌, ℕ, zero, suc, ◌+◌, ◌-◌, ◌<◌, ◌≤◌, ◌==◌, Bool, true, false, cond, List, [], ◌∷◌, ◌++◌, length, get_or, refl, sym, ap}
+use Rattle.std.proofs.Common.{◌∙◌, subst, inl, inr, arith, nat_lt, Some, slice_get, slice_set, length-append, length-set, get_or-set_same, get_or-set_other}
 use Rattle.std.specs.List.{count_by}
 use Rattle.std.proofs.lemmas.List.{get_or_read}
 use Rattle.std.proofs.lemmas.Bool.{cases_lt, cases_eq}
@@ -7,7 +8,8 @@ use Rattle.std.proofs.lemmas.Bool.Decides.{nat_tests}
 use Rattle.cred_slots.specs.declared.row.Row.{Row}
 use Rattle.cred_slots.specs.Table.{IsSameBag}
 use Rattle.cred_slots.specs.Rows.{row_at, repeated, held_in, late_in, held_count, late_count, IsFlagged, AreSoundRows}
-use Rattle.cred_slots.proofs.Counting.{weight, count-append, count-cons, count-repeated, count-repeated-set, length-repeated-set, count-le-length, sum_some, bag_length}
+use Rattle.cred_slots.proofs.Counting.{weight, count-append, count-cons, count-repeated, count-repeated-set, length-repeated-set, count-le-length, sum_some}
+use Rattle.cred_slots.proofs.Counting.{bag_length}
 
 pub place_within : (sealed : List ℕ) (number slot : ℕ) → slice_get sealed number ≡ Some slot → number < length sealed
 place_within [] number slot e = cc
@@ -29,7 +31,8 @@ each_row-set P rows slot row long within here others k h = elim (cases_eq k slot
   | inr ne ↦ rw (get_or-set_other rows slot k row (row_at [] 0) ne) (others k h)
 ]
 
-IsFlagged-set : (count : Row → ℕ) (flags : List Bool) (rows : List Row) → IsFlagged count flags rows → length rows ≡ 256 → (slot : ℕ) → slot < 256 → (row : Row) (flag : Bool)
+IsFlagged-set : (count : Row → ℕ) (flags : List Bool) (rows : List Row) → IsFlagged count flags rows → length rows ≡ 256 → (slot : ℕ) → slot < 256
+    → (row : Row) (flag : Bool)
     → flag ≡ nat_lt 0 (count row) → IsFlagged count (slice_set flags slot flag) (slice_set rows slot row)
 IsFlagged-set count flags rows is long slot within row flag e = record {
   long = omega (arith, is.long, length-set {A = Bool});
@@ -42,7 +45,8 @@ IsFlagged-set count flags rows is long slot within row flag e = record {
   ];
 }
 
-IsFlagged-keep : (count : Row → ℕ) (flags : List Bool) (rows : List Row) → IsFlagged count flags rows → length rows ≡ 256 → (slot : ℕ) → slot < 256 → (row : Row)
+IsFlagged-keep : (count : Row → ℕ) (flags : List Bool) (rows : List Row) → IsFlagged count flags rows → length rows ≡ 256 → (slot : ℕ) → slot < 256
+    → (row : Row)
     → count row ≡ count (row_at rows slot) → IsFlagged count flags (slice_set rows slot row)
 IsFlagged-keep count flags rows is long slot within row e = record {
   long = is.long;
@@ -174,7 +178,8 @@ seal-sound {rows = rows} {sealed = sealed} {deferred = deferred} {kept = kept} {
       keeps = λ k h kept_k. elim (cases_eq k slot) [
         | inl same ↦
             let gone : get_or (slice_set kept slot false) slot false ≡ false = get_or-set_same kept slot false false in_kept in
-            let still : get_or (slice_set kept slot false) slot false ≡ true = subst (λ (j : ℕ). get_or (slice_set kept slot false) j false ≡ true) same kept_k in
+            let still : get_or (slice_set kept slot false) slot false ≡ true =
+            subst (λ (j : ℕ). get_or (slice_set kept slot false) j false ≡ true) same kept_k in
             cc
         | inr ne ↦
             rw (get_or-set_other rows slot k row (row_at [] 0) ne)
@@ -292,18 +297,21 @@ seal-bag {rows = rows} s slot number within is = record {
       );
 }
 
-pub add-bag : (rows : List Row) (sealed : List ℕ) (number slot : ℕ) → length rows ≡ 256 → Standing rows sealed number slot → (row : Row) → row ≡ row_at rows slot
+pub add-bag : (rows : List Row) (sealed : List ℕ) (number slot : ℕ) → length rows ≡ 256 → Standing rows sealed number slot → (row : Row)
+    → row ≡ row_at rows slot
     → IsSameBag (held_in (slice_set rows slot (record { number = row.number; held = row.held + 1; late = row.late }))) (number ∷ held_in rows)
 add-bag rows sealed number slot long at row is = record {
   counts = λ test.
       let new : Row = record { number = row.number; held = row.held + 1; late = row.late } in
       let same : row.number ≡ number = rw is at.number_is in
       let in_rows : slot < length rows = omega (arith, at.in_table) in
-      let counted : cond (test row.number) (row.held + 1) 0 ≡ weight held_count test row + cond (test number) 1 0 = rw (← same) (more (test row.number) row.held) in
+      let counted : cond (test row.number) (row.held + 1) 0 ≡ weight held_count test row + cond (test number) 1 0 =
+      rw (← same) (more (test row.number) row.held) in
       omega (arith, count-repeated-set held_count test rows slot new in_rows, count-cons test number (held_in rows), counted, ap (weight held_count test) is);
 }
 
-pub drop-bag : (rows : List Row) (sealed : List ℕ) (number slot : ℕ) → length rows ≡ 256 → Standing rows sealed number slot → (row : Row) → row ≡ row_at rows slot → 0 < row.held
+pub drop-bag : (rows : List Row) (sealed : List ℕ) (number slot : ℕ) → length rows ≡ 256 → Standing rows sealed number slot → (row : Row)
+    → row ≡ row_at rows slot → 0 < row.held
     → IsSameBag (held_in rows) (number ∷ held_in (slice_set rows slot (record { number = row.number; held = row.held - 1; late = row.late + 1 })))
 drop-bag rows sealed number slot long at row is some = record {
   counts = λ test.
@@ -313,7 +321,14 @@ drop-bag rows sealed number slot long at row is some = record {
       let back : row.held - 1 + 1 ≡ row.held = omega arith in
       let counted : cond (test row.number) row.held 0 ≡ weight held_count test new + cond (test number) 1 0 =
       rw (← same) (ap (λ n. cond (test row.number) n 0) (sym back) ∙ more (test row.number) (row.held - 1)) in
-      omega (arith, count-repeated-set held_count test rows slot new in_rows, count-cons test number (held_in (slice_set rows slot new)), counted, ap (weight held_count test) is);
+      omega (
+        arith,
+        count-repeated-set held_count test rows slot new in_rows,
+        count-cons test number (held_in (slice_set rows slot new)),
+        counted,
+        ap
+            (weight held_count test) is,
+      );
 }
 
 -- a number that is referred to, at the slot that was read for it

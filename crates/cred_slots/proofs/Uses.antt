@@ -1,5 +1,6 @@
 -- What a slot's row says of the references to the numbers in it.
-use Rattle.std.proofs.Common.{◌≡◌, ◌≢◌, ℕ, ◌+◌, ◌<◌, ◌≤◌, ◌==◌, Bool, true, false, List, ◌++◌, refl, ap, ◌∙◌, subst, inl, inr, arith, Option, Some, None, slice_get, slice_set, length, get_or-set_same, sym}
+use Rattle.std.proofs.Common.{◌≡◌, ◌≢◌, ℕ, ◌+◌, ◌<◌, ◌≤◌, ◌==◌, Bool, true, false, List, ◌++◌, refl, ap, ◌∙◌, subst, inl, inr, arith, Option, Some, None}
+use Rattle.std.proofs.Common.{slice_get, slice_set, length, get_or-set_same, sym}
 use Rattle.std.specs.List.{count_by}
 use Rattle.std.specs.Option.{option_map_or}
 use Rattle.std.proofs.lemmas.Bool.{cases_lt, cases_eq}
@@ -19,7 +20,8 @@ uses_here {rows = rows} {sealed = sealed} {deferred = deferred} s slot within =
 
 none_beyond : {rows : List Row} {sealed deferred : List ℕ} {kept used late : List Bool} {held spare sealable referable : ℕ}
     → AreSoundRows rows sealed deferred kept used late held spare sealable referable
-    → (count : Row → ℕ) → ((row : Row) → count row ≤ row.held + row.late) → (slot : ℕ) → 256 ≤ slot → count_by (is_sealed_in sealed slot) (repeated count rows) ≡ 0
+    → (count : Row → ℕ) → ((row : Row) → count row ≤ row.held + row.late) → (slot : ℕ) → 256 ≤ slot
+    → count_by (is_sealed_in sealed slot) (repeated count rows) ≡ 0
 none_beyond {rows = rows} {sealed = sealed} s count bounded slot beyond =
     count-repeated count (is_sealed_in sealed slot) rows
     ∙ sum_zero (weight count (is_sealed_in sealed slot)) rows (λ i h.

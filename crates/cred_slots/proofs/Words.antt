@@ -1,12 +1,13 @@
 -- The flags of four words.
-use Rattle.std.proofs.Common.{◌≡◌, ◌≢◌, ℕ, zero, suc, ◌+◌, ◌*◌, ◌/◌, ◌%◌, ◌<◌, ◌≤◌, ◌==◌, ◌||◌, Bool, true, false, not, cond, List, [], ◌∷◌, length, get_or, map, max, refl, sym, ap, ◌∙◌, inl, inr, bit_or, arith, Some, None, slice_set, find}
+use Rattle.std.proofs.Common.{◌≡◌, ◌≢◌, ℕ, zero, suc, ◌+◌, ◌*◌, ◌/◌, ◌%◌, ◌<◌, ◌≤◌, ◌==◌, ◌||◌, Bool, true, false, not, cond, List, [], ◌∷◌, length, get_or}
+use Rattle.std.proofs.Common.{map, max, refl, sym, ap, ◌∙◌, inl, inr, bit_or, arith, Some, None, slice_set, find}
 use Rattle.std.specs.Int.{bit_at}
 use Rattle.std.specs.List.{range_with_len}
 use Rattle.std.proofs.lemmas.List.FromFn.{length-map-range_with_len, get_or-map-range_with_len, fill_by_all}
 use Rattle.std.proofs.lemmas.Nat.Bits.{bit_at_or, bit_at-lt}
 use Rattle.std.proofs.lemmas.Bool.{cases_lt, cases_eq}
 use Rattle.std.proofs.Common.{length-set, get_or-set_same, get_or-set_other}
-use Rattle.cred_slots.specs.Table.{slots}
+use Rattle.cred_ids.specs.Limits.{slots}
 use Rattle.cred_slots.specs.Flags.{flag_at, flags_of, in_either, first_unset}
 
 pub length-flags_of : (words : List ℕ) → length (flags_of words) ≡ 256
@@ -18,7 +19,8 @@ unfolding flags_of slots
 get_or-flags_of words slot within = get_or-map-range_with_len (flag_at words) 0 256 slot slot false within (omega arith)
 
 -- flags that are right at each place
-pub flags_of-is : (words : List ℕ) (flags : List Bool) → length flags ≡ 256 → ((k : ℕ) → k < 256 → get_or flags k false ≡ flag_at words k) → flags_of words ≡ flags
+pub flags_of-is : (words : List ℕ) (flags : List Bool) → length flags ≡ 256 → ((k : ℕ) → k < 256 → get_or flags k false ≡ flag_at words k)
+    → flags_of words ≡ flags
 unfolding flags_of slots
 flags_of-is words flags long each = sym (fill_by_all (flag_at words) flags 256 false long each)
 
@@ -63,7 +65,9 @@ either_bit a (suc (suc b)) p q = absurd (omega arith)
 
 -- the words of both, one by one
 abbrev pub or_words : List ℕ → List ℕ → List ℕ
-or_words xs ys = bit_or (get_or xs 0 0) (get_or ys 0 0) ∷ bit_or (get_or xs 1 0) (get_or ys 1 0) ∷ bit_or (get_or xs 2 0) (get_or ys 2 0) ∷ bit_or (get_or xs 3 0) (get_or ys 3 0) ∷ []
+or_words xs ys =
+    bit_or (get_or xs 0 0) (get_or ys 0 0) ∷ bit_or (get_or xs 1 0) (get_or ys 1 0) ∷ bit_or (get_or xs 2 0) (get_or ys 2 0)
+    ∷ bit_or (get_or xs 3 0) (get_or ys 3 0) ∷ []
 
 or_word : (xs ys : List ℕ) (q : ℕ) → q < 4 → get_or (or_words xs ys) q 0 ≡ bit_or (get_or xs q 0) (get_or ys q 0)
 or_word xs ys zero h = refl
@@ -85,7 +89,8 @@ flags_of-or_words xs ys =
     (λ k h. get_or-map-range_with_len (in_either (flags_of xs) (flags_of ys)) 0 256 k k false h (omega arith)
     ∙ rw (get_or-flags_of xs k h, get_or-flags_of ys k h) (sym (flag_at-or_words xs ys k h)))
 
-pub find_first : (test : ℕ → Bool) (a n s : ℕ) → a ≤ s → s < a + n → test s ≡ true → ((k : ℕ) → a ≤ k → k < s → test k ≡ false) → find test (range_with_len a n) ≡ Some s
+pub find_first : (test : ℕ → Bool) (a n s : ℕ) → a ≤ s → s < a + n → test s ≡ true → ((k : ℕ) → a ≤ k → k < s → test k ≡ false)
+    → find test (range_with_len a n) ≡ Some s
 find_first test a zero s low high here before = absurd (omega arith)
 find_first test a (suc n) s low high here before = elim (cases_lt a s) [
   | inl lt ↦ rw (before a (omega arith) lt) (find_first test (a + 1) n s (omega arith) (omega arith) here (λ k l h. before k (omega arith) h))
@@ -96,7 +101,8 @@ pub find_none : (test : ℕ → Bool) (a n : ℕ) → ((k : ℕ) → a ≤ k →
 find_none test a zero each = refl
 find_none test a (suc n) each = rw (each a (omega arith) (omega arith)) (find_none test (a + 1) n (λ k l h. each k (omega arith) (omega arith)))
 
-pub first_unset-is : (flags : List Bool) (s : ℕ) → s < 256 → get_or flags s false ≡ false → ((k : ℕ) → k < s → get_or flags k false ≡ true) → first_unset flags ≡ Some s
+pub first_unset-is : (flags : List Bool) (s : ℕ) → s < 256 → get_or flags s false ≡ false → ((k : ℕ) → k < s → get_or flags k false ≡ true)
+    → first_unset flags ≡ Some s
 unfolding slots
 first_unset-is flags s within here before =
     find_first (λ slot. not (get_or flags slot false)) 0 256 s (omega arith) within (ap not here) (λ k l h. ap not (before k h))

@@ -3,7 +3,7 @@ use Rattle.std.specs.Prelude.{ℕ, ◌/◌, ◌%◌, ◌==◌, Bool, false, not,
 use Rattle.std.specs.Prelude.{slice_index, slice_index_or}
 use Rattle.std.specs.declared.option.Option.{Option}
 use Rattle.std.specs.Int.{bit_at}
-use Rattle.cred_slots.specs.Table.{slots}
+use Rattle.cred_ids.specs.Limits.{slots}
 
 -- The flag of a slot is one bit of the word that it falls in.
 abbrev pub flag_at : List ℕ → ℕ → Bool

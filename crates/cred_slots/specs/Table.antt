@@ -4,7 +4,7 @@ use Rattle.std.specs.Prelude.{find, count_by, slice_get, slice_index_or, is_some
 use Rattle.std.specs.declared.option.Option.{Option}
 use Rattle.std.specs.List.{list_any, range_with_len}
 use Rattle.std.specs.Option.{option_map_or}
-use Rattle.cred_ids.specs.Limits.{SLOTS}
+use Rattle.cred_ids.specs.Limits.{SLOTS, slots}
 
 pub record Table : Type 0 where
   -- the slot of each number that was sealed: the place in this list is the number
@@ -38,7 +38,7 @@ abbrev pub references_to : Table → ℕ → ℕ
 references_to t number = count_by (λ n. n == number) (references t)
 
 -- the number stands in the slot
-abbrev pub is_sealed_in : List ℕ → ℕ → ℕ → Bool
+abbrev pub is_sealed_in : List ℕ → (slot number : ℕ) → Bool
 is_sealed_in sealed slot number =
     option_map_or (λ place. place == slot) (slice_get sealed number) false
 
@@ -54,15 +54,11 @@ abbrev pub is_live_in : Table → ℕ → Bool
 is_live_in t slot =
     list_any (λ number. is_sealed_in t.sealed slot number) (references t) || is_kept_in t slot
 
--- 0 to 255
-unfoldable pub slots : List ℕ
-slots = range_with_len 0 SLOTS
-
 -- the least slot that isn't live
 abbrev pub least_free_in : Table → Option ℕ
 least_free_in t = find (λ slot. not (is_live_in t slot)) slots
 
--- The sweep lets go of all that was given up.
+-- The sweep drops all that was given up.
 abbrev pub swept_table : Table → Table
 swept_table t = record t { deferred = [] }
 

@@ -2,8 +2,7 @@
 ghost use Rattle.std.specs.Prelude.{◌≡◌, ◌≢◌, ℕ, ◌<◌, map, false, slice_set, if◌then◌else◌};
 ghost use Rattle.std.specs.Prelude.{MatchOption};
 ghost use Rattle.std.specs.Int.{bit_at};
-ghost use Rattle.cred_ids.specs.Limits.{SLOTS};
-ghost use Rattle.cred_slots.specs.Table.{slots};
+ghost use Rattle.cred_ids.specs.Limits.{SLOTS, slots};
 ghost use Rattle.cred_slots.specs.Flags.{in_either, first_unset};
 
 use std::marker::Model;

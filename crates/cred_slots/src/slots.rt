@@ -5,7 +5,7 @@ ghost use Rattle.std.specs.Prelude.{IsTrue};
 ghost use Rattle.cred_ids.specs.Limits.{SLOTS};
 ghost use Rattle.cred_slots.specs.Table.{empty_table, references_to, uses_in, is_sealed_in};
 ghost use Rattle.cred_slots.specs.Table.{is_kept_in};
-ghost use Rattle.cred_slots.specs.Table.{is_live_in, least_free_in, swept_table};
+ghost use Rattle.cred_slots.specs.Table.{least_free_in, swept_table};
 ghost use Rattle.cred_slots.specs.Table.{swept_table_if_full, free_in};
 ghost use Rattle.cred_slots.specs.Table.{IsSameBag};
 ghost use Rattle.cred_slots.specs.Table.{IsOnlyUser};
@@ -57,8 +57,8 @@ impl Model for Slots {
     } };
 
     ghost invariant = { λ s.
-        AreSoundRows s.rows.items s.sealed.items s.deferred.items s.kept s.used s.late s.held s.spare
-        (vec_capacity s.sealed) (vec_capacity s.deferred) };
+        AreSoundRows s.rows.items s.sealed.items s.deferred.items s.kept s.used s.late s.held
+        s.spare (vec_capacity s.sealed) (vec_capacity s.deferred) };
 }
 
 impl Slots {

@@ -79,7 +79,8 @@ process_ends : (script : Script) (s : State) (number task : ℕ) (cause : AbortC
 process_ends script s number task cause cast left fewer =
     let ends = is_thread_of cast.process in
     let after = ended ends (with_left s left) in
-    only_tasks script s (Act number) (Aborted task cause) left after.tasks (dropped cast.process s.casts) (without_flag s.dumpable cast.process) after.deferred fewer
+    only_tasks script s (Act number) (Aborted task cause) left after.tasks (dropped cast.process s.casts) (without_flag s.dumpable cast.process) after.deferred
+    fewer
     (Fewer ends refl refl (ByAbort number task cause cast refl refl refl refl refl)) (ended_stay (with_left s left) ends)
 
 follow_changes : (script : Script) (s : State) (number task : ℕ) (cast : Broadcast) (owner : Task) (old : Numbered)
@@ -94,7 +95,11 @@ follow_changes script s number task cast owner old (Ok new) opened first found i
     in_slots (Changes script s event) s (λ now. (Aborted task cause.Full, aborted cast now))
     (λ now slot. (
       Acted task (length now.creds) slot left_waiting,
-      record (replaced now task old.number new slot) { casts = waits_no_more task now.casts; dumpable = renewed now.dumpable owner.process (differs old.cred new) },
+      record (replaced now task old.number new slot) {
+        casts = waits_no_more task now.casts;
+        dumpable = renewed now.dumpable owner.process
+            (differs old.cred new);
+      },
     ))
     (process_ends script s number task cause.Full cast)
     (λ left slot fewer free.

@@ -15,8 +15,10 @@ use Rattle.cred_model.proofs.Numbers.{overriding_as, updated_as}
 use Rattle.cred_model.proofs.Referred.{all_survive}
 use Rattle.cred_sound.specs.Flags.{AreFlagged}
 use Rattle.cred_sound.specs.Sound.{IsSound}
-use Rattle.cred_sound.proofs.Parts.{TasksChange, Cause, Creation, Death, ByBegin, ByAct, ByRaw, ByCommit, BySpawn, ByFork, ByExit, ByAbort, SameTasks, SetsFlag, Creates, Shares, Renews, Overrides, Fewer}
-use Rattle.cred_sound.proofs.Flags.{lives, flags_set, flags_renewed, flags_done, flags_kept, flags_joined, flags_more, flags_alone, flags_aborted, flags_exited, owner_lives}
+use Rattle.cred_sound.proofs.Parts.{TasksChange, Cause, Creation, Death, ByBegin, ByAct, ByRaw, ByCommit, BySpawn, ByFork, ByExit, ByAbort, SameTasks, SetsFlag}
+use Rattle.cred_sound.proofs.Parts.{Creates, Shares, Renews, Overrides, Fewer}
+use Rattle.cred_sound.proofs.Flags.{lives, flags_set, flags_renewed, flags_done, flags_kept, flags_joined, flags_more, flags_alone, flags_aborted, flags_exited}
+use Rattle.cred_sound.proofs.Flags.{owner_lives}
 
 -- so it is with these tasks and flags
 settled : (tasks : List Task) (flags : List ProcessFlag) (t : State) → t.tasks ≡ tasks → t.dumpable ≡ flags → AreFlagged tasks flags
@@ -78,10 +80,12 @@ fewer_flags : (s : State) (event : Event) (ends : Task → Bool) (made : Answer 
     → AreFlagged (survivors ends s.tasks) made.1.dumpable
 fewer_flags s event ends made (ByExit task owner is found ending idle casts flags) sound =
     subst (AreFlagged (survivors ends s.tasks)) (sym flags)
-    (subst (λ (f : Task → Bool). AreFlagged (survivors f s.tasks) (flags_left s owner)) (sym ending) (flags_exited s.tasks s.dumpable owner task sound.tasks found sound.flags))
+    (subst (λ (f : Task → Bool). AreFlagged (survivors f s.tasks) (flags_left s owner)) (sym ending)
+    (flags_exited s.tasks s.dumpable owner task sound.tasks found sound.flags))
 fewer_flags s event ends made (ByAbort number task cause cast is ending casts answer flags) sound =
     subst (AreFlagged (survivors ends s.tasks)) (sym flags)
-    (subst (λ (f : Task → Bool). AreFlagged (survivors f s.tasks) (without_flag s.dumpable cast.process)) (sym ending) (flags_aborted s.tasks s.dumpable cast.process sound.flags))
+    (subst (λ (f : Task → Bool). AreFlagged (survivors f s.tasks) (without_flag s.dumpable cast.process)) (sym ending)
+    (flags_aborted s.tasks s.dumpable cast.process sound.flags))
 
 -- a first task
 begun_flags : (s : State) (t : Task) → AreFlagged s.tasks s.dumpable

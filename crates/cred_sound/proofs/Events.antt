@@ -1,5 +1,6 @@
 -- What each event changes.
-use Rattle.std.proofs.Common.{◌≡◌, ◌==◌, ◌&&◌, ◌⊎◌, inl, inr, Bool, ℕ, List, [], ◌∷◌, ◌++◌, length, slice_get, slice_set, drop, Option, Some, None, true, false, cond, refl, sym, subst, position}
+use Rattle.std.proofs.Common.{◌≡◌, ◌==◌, ◌&&◌, ◌⊎◌, inl, inr, Bool, ℕ, List, [], ◌∷◌, ◌++◌, length, slice_get, slice_set, drop, Option, Some, None, true, false}
+use Rattle.std.proofs.Common.{cond, refl, sym, subst, position}
 use Rattle.std.specs.List.{All, Contains, count_by, remove}
 use Rattle.std.specs.Option.{option_and_then}
 use Rattle.std.proofs.lemmas.Bool.{eqb-true}
@@ -13,7 +14,9 @@ use Rattle.cred_record.specs.declared.want.Want.{Want}
 use Rattle.cred_rules.specs.Access.{may_signal}
 use Rattle.cred_rules.specs.Files.{chown, chmod, set_attr}
 use Rattle.cred_event.specs.declared.event.Event.{Event}
-use Rattle.cred_event.specs.declared.event.Event.TheVariants.{Init, Take, TakeFile, Release, Ask, Signal, Prepare, Alter, Commit, Abort, Override, Revert, Begin, Act, OpenFile, CloseFile, Spawn, Fork, Exit, Sweep, Dumpable, Dumped, Ptrace, Chown, Chmod, SetAttr, Stat, Raw}
+use Rattle.cred_event.specs.declared.event.Event.TheVariants.{Init, Take, TakeFile, Release, Ask, Signal, Prepare, Alter, Commit, Abort, Override, Revert}
+use Rattle.cred_event.specs.declared.event.Event.TheVariants.{Begin, Act, OpenFile, CloseFile, Spawn, Fork, Exit, Sweep, Dumpable, Dumped, Ptrace, Chown, Chmod}
+use Rattle.cred_event.specs.declared.event.Event.TheVariants.{SetAttr, Stat, Raw}
 use Rattle.cred_event.specs.declared.event.Change.{Change}
 use Rattle.cred_event.specs.declared.event.Change.TheVariants.{Exec}
 use Rattle.cred_event.specs.declared.event.Mode.{Mode}
@@ -22,10 +25,11 @@ use Rattle.cred_event.specs.declared.answer.Answer.{Answer}
 use Rattle.cred_event.specs.declared.answer.Answer.TheVariants.{Done, Sealed, Kept, Told, Einval, Stale, TableFull}
 use Rattle.cred_event.specs.declared.answer.Told.TheVariants as told
 use Rattle.cred_model.specs.Script.{Script, chain_of, root_of, reaches}
-use Rattle.cred_model.specs.State.{State, Task, OpenFile as Open, Hold, Prepared, Changed, Numbered, numbered, task_of, cast_in, begun_by, open_of, hold_of, prepared_of, held_by, opener_of, credential_of, info_of}
+use Rattle.cred_model.specs.State.{State, Task, OpenFile as Open, Hold, Prepared, Changed, Numbered, numbered, task_of, cast_in, begun_by, open_of, hold_of}
+use Rattle.cred_model.specs.State.{prepared_of, held_by, opener_of, credential_of, info_of}
 use Rattle.cred_model.specs.Slots.{refs}
 use Rattle.cred_model.specs.Named.{change_files}
-use Rattle.cred_model.specs.Changing.{changed_file, changed_by}
+use Rattle.cred_model.specs.FileChanges.{changed_file, changed_by}
 use Rattle.cred_model.specs.Answers.{checked}
 use Rattle.cred_model.specs.Change.{by_change}
 use Rattle.cred_model.specs.Ends.{ended}
@@ -33,12 +37,16 @@ use Rattle.cred_model.specs.Ptrace.{may_trace}
 use Rattle.cred_model.specs.Dumpable.{is_dumpable, set_flag, flags_begun, flags_committed, flag_of_value}
 use Rattle.cred_model.specs.Moves.{table_full, with_overrides, with_override, overridden, with_change}
 use Rattle.cred_model.specs.Moves.{first_task, created, preparing, committed, given_up}
-use Rattle.cred_model.specs.Step.{ends_with, casts_after, commit_answer, try_commit, take_hold, is_access, for_task, for_access, override_held, override_prepared, by_file, outcome, step}
+use Rattle.cred_model.specs.Step.{ends_with, casts_after, commit_answer, try_commit, take_hold, is_access, for_task, for_access, override_held}
+use Rattle.cred_model.specs.Step.{override_prepared, by_file, outcome, step}
 use Rattle.cred_model.proofs.Lists.{All-at}
 use Rattle.cred_sound.specs.Ledger.{SealsOf}
-use Rattle.cred_sound.proofs.References.{owner_stands, overrides_stand, credential_stands, opener_stands, held_by_stands, file_stands, found_stands, held_stands, base_stands}
-use Rattle.cred_sound.proofs.Tests.{IfAllowed, outcome_has, if_some, if_none, if_either, if_fewer, if_passed, if_idle, if_own, if_last, if_ok, if_file_rule, in_slots}
-use Rattle.cred_sound.proofs.Parts.{with_left, Old, OldOrNew, grows, casts_left, Changes, Seals, OfFirst, OfLabel, ByCommit, SetsFlag, Creates, Renews, Overrides, Stays, Adds, Removes, Prepares, Alters, Ends, SameInfos, Writes}
+use Rattle.cred_sound.proofs.References.{owner_stands, overrides_stand, credential_stands, opener_stands, held_by_stands, file_stands, found_stands}
+use Rattle.cred_sound.proofs.References.{held_stands, base_stands}
+use Rattle.cred_sound.proofs.Tests.{IfAllowed, outcome_has, if_some, if_none, if_either, if_fewer, if_passed, if_idle, if_own, if_last, if_ok, if_file_rule}
+use Rattle.cred_sound.proofs.Tests.{in_slots}
+use Rattle.cred_sound.proofs.Parts.{with_left, Old, OldOrNew, grows, casts_left, Changes, Seals, OfFirst, OfLabel, ByCommit, SetsFlag, Creates, Renews}
+use Rattle.cred_sound.proofs.Parts.{Overrides, Stays, Adds, Removes, Prepares, Alters, Ends, SameInfos, Writes}
 use Rattle.cred_sound.proofs.OnePart.{still_left, gives_up, fits_own, still, refused, with_tasks, only_tasks, with_lists, with_prepared, only_infos}
 use Rattle.cred_sound.proofs.Calls.{ended_stay, begin_changes, act_changes, raw_changes, spawn_changes, fork_changes, exit_changes}
 
@@ -374,7 +382,10 @@ ptrace_changes script s line from hold to target mode =
     (λ receiver there. if_some Q (held_by s hold) _ _
     (λ own held. if_some Q (held_by s target) _ _
     (λ other at.
-    if_last Q (may_trace own.cred other.cred (sender.process == receiver.process) (reaches script.namespaces own.cred.ns other.cred.ns) (is_dumpable s.dumpable receiver.process) mode) _ _
+    if_last Q
+    (may_trace own.cred other.cred (sender.process == receiver.process) (reaches script.namespaces own.cred.ns other.cred.ns)
+    (is_dumpable s.dumpable receiver.process) mode)
+    _ _
     (refused script s event Done))))))
 
 -- a file is changed, by one of the three calls

@@ -1,10 +1,12 @@
 -- No more tasks live than may: each event that creates one tests their number first.
-use Rattle.std.proofs.Common.{◌≡◌, ℕ, ◌<◌, ◌≤◌, List, [], ◌∷◌, length, fold, nat_lt, Result, Ok, Err, Bool, true, false, cond, not, refl, sym, ap, ◌∙◌, subst, arith}
+use Rattle.std.proofs.Common.{◌≡◌, ℕ, ◌<◌, ◌≤◌, List, [], ◌∷◌, length, fold, nat_lt, Result, Ok, Err, Bool, true, false, cond, not, refl, sym, ap, ◌∙◌, subst}
+use Rattle.std.proofs.Common.{arith}
 use Rattle.std.specs.List.{find}
 use Rattle.std.proofs.lemmas.Bool.Decides.{nat_tests}
 use Rattle.std.proofs.lemmas.List.{length-map, length_push}
 use Rattle.std.proofs.lemmas.List.Sums.{count_by-le-length, length-filter}
 use Rattle.cred_ids.specs.Limits.{TASKS}
+use Rattle.cred_ids.specs.Tests.{◌>>=◌}
 use Rattle.cred_record.specs.Credential.{first_credential}
 use Rattle.cred_event.specs.declared.event.Event.{Event}
 use Rattle.cred_event.specs.declared.event.Event.TheVariants.{Init, Spawn, Fork}
@@ -15,7 +17,7 @@ use Rattle.cred_model.specs.Script.{Script, root_of}
 use Rattle.cred_model.specs.State.{State, Task, opening, numbered, task_of, cast_in, begun_by}
 use Rattle.cred_model.specs.Dumpable.{flags_begun}
 use Rattle.cred_model.specs.Ends.{is_thread_of, survivors}
-use Rattle.cred_model.specs.Moves.{◌>>=◌, fewer_or, table_full, first_task, created, updated}
+use Rattle.cred_model.specs.Moves.{fewer_or, table_full, first_task, created, updated}
 use Rattle.cred_model.specs.Moves.{overriding}
 use Rattle.cred_model.specs.Step.{step}
 use Rattle.cred_sound.specs.Few.{TasksAreFew}

@@ -1,5 +1,6 @@
 -- Each process that has threads has one flag, and no other has any.
-use Rattle.std.proofs.Common.{◌≡◌, ◌≢◌, ◌==◌, ◌&&◌, ◌||◌, not, ℕ, List, [], ◌∷◌, ◌++◌, map, find, is_some, Some, None, Option, Bool, true, false, cond, arith, refl, sym, ap, ◌∙◌, subst}
+use Rattle.std.proofs.Common.{◌≡◌, ◌≢◌, ◌==◌, ◌&&◌, ◌||◌, not, ℕ, List, [], ◌∷◌, ◌++◌, map, find, is_some, Some, None, Option, Bool, true, false, cond, arith}
+use Rattle.std.proofs.Common.{refl, sym, ap, ◌∙◌, subst}
 use Rattle.std.specs.List.{All, AllPairs, filter, list_any}
 use Rattle.std.specs.Option.{option_map, option_or}
 use Rattle.std.proofs.lemmas.Bool.{cond_both, eqb-true, eqb-false}
@@ -141,7 +142,8 @@ lives_alone tasks owner task process is =
     elim (owner.process == process) as (λ b. (owner.process == process) ≡ b → lives (survivors (is_beside owner) tasks) process ≡ lives tasks process) [
       | true ↦ λ same.
           let own : (owner.number == owner.number) ≡ true = grind (arith, nat_tests) in
-          let stays : is_beside owner owner ≡ false = ap (λ b. (owner.process == owner.process) && not b) own ∙ and_swap (owner.process == owner.process) false in
+          let stays : is_beside owner owner ≡ false =
+          ap (λ b. (owner.process == owner.process) && not b) own ∙ and_swap (owner.process == owner.process) false in
           let on = find_goes_on (is_beside owner) tasks task owner is stays in
           some-found (is_thread_of process) (λ t. t.number == task) (survivors (is_beside owner) tasks) owner on.0 same
           ∙ sym (some-found (is_thread_of process) (λ t. t.number == task) tasks owner is same)

@@ -6,7 +6,7 @@ use Rattle.cred_event.specs.declared.event.Event.{Event}
 use Rattle.cred_event.specs.declared.answer.Answer.{Answer}
 use Rattle.cred_model.specs.Script.{Script}
 use Rattle.cred_model.specs.State.{State}
-use Rattle.cred_model.specs.Changing.{changed_file, event_changes}
+use Rattle.cred_model.specs.FileChanges.{changed_file, event_changes}
 use Rattle.cred_model.specs.Step.{step}
 use Rattle.cred_sound.proofs.Parts.{InfosChange, SameInfos, Writes}
 use Rattle.cred_sound.proofs.Events.{changes}

@@ -1,4 +1,4 @@
--- A change of one part of the state, and of what hangs on it.
+-- A change of one part of the state, and of what depends on it.
 use Rattle.std.proofs.Common.{◌≡◌, ◌≢◌, ◌==◌, ◌<◌, ℕ, List, [], ◌∷◌, ◌++◌, map, slice_get, Some, true, refl, sym, ap, ◌∙◌, subst, position}
 use Rattle.std.specs.List.{All, Contains, remove}
 use Rattle.std.proofs.lemmas.Bool.{eqb-true}
@@ -16,7 +16,8 @@ use Rattle.cred_model.proofs.Lists.{All-at, All-unmap, AllPairs-unmap, alone, at
 use Rattle.cred_sound.specs.Ledger.{IsClear, IsOrderly, SealsOf, ledger}
 use Rattle.cred_sound.proofs.Moves.{Apart}
 use Rattle.cred_sound.proofs.References.{IsFree, own_refs}
-use Rattle.cred_sound.proofs.Parts.{with_left, sealed_cred, Fits, Origin, Changes, TasksChange, FilesChange, HoldsChange, PreparedChange, InfosChange, SameCreds, Seals, SameTasks, Stays, SamePrepared, SameInfos}
+use Rattle.cred_sound.proofs.Parts.{with_left, sealed_cred, Fits, Origin, Changes, TasksChange, FilesChange, HoldsChange, PreparedChange, InfosChange}
+use Rattle.cred_sound.proofs.Parts.{SameCreds, Seals, SameTasks, Stays, SamePrepared, SameInfos}
 
 -- ---- the references that are left
 
@@ -60,7 +61,7 @@ fits_own s event t label place p rest seals at is order =
           (λ q same kept. subst (SealsOf event) (sym (ap (λ (q : Prepared). q.label) (same kept) ∙ eqb-true p.label label test)) seals) s.prepared one;
     }
 
--- ---- a change of one part, and of what hangs on it
+-- ---- a change of one part, and of what depends on it
 
 -- the event is refused, only reads, or only sweeps
 pub still : (script : Script) (s : State) (event : Event) (answer : Answer) (left : List ℕ) → All (Contains s.deferred) left

@@ -15,7 +15,8 @@ use Rattle.cred_model.specs.Step.{ends_with}
 use Rattle.cred_model.proofs.Numbers.{overriding_as, overriding_number, owner_number, updated_as, updated_number}
 use Rattle.cred_sound.specs.Casts.{IsThread}
 use Rattle.cred_sound.specs.Sound.{IsSound}
-use Rattle.cred_sound.proofs.Parts.{TasksChange, Cause, Creation, Death, casts_left, ByBegin, ByAct, ByRaw, ByCommit, BySpawn, ByFork, ByExit, ByAbort, SameTasks, SetsFlag, Creates, Shares, Renews, Overrides, Fewer}
+use Rattle.cred_sound.proofs.Parts.{TasksChange, Cause, Creation, Death, casts_left, ByBegin, ByAct, ByRaw, ByCommit, BySpawn, ByFork, ByExit, ByAbort}
+use Rattle.cred_sound.proofs.Parts.{SameTasks, SetsFlag, Creates, Shares, Renews, Overrides, Fewer}
 use Rattle.cred_sound.proofs.Threads.{AreOpen, is_thread, thread_among, thread_kept, thread_stays, open_with, open_begun, open_left, open_joined, open_dropped}
 use Rattle.cred_sound.proofs.Unique.{none_has}
 

@@ -1,5 +1,6 @@
 -- What an event may change, part by part.
-use Rattle.std.proofs.Common.{◌≡◌, ◌≢◌, ◌==◌, ◌-◌, ◌⊎◌, Bool, false, ℕ, ◌<◌, List, [], ◌∷◌, ◌++◌, length, slice_get, slice_set, Some, None, Ok, position, refl, ap, arith}
+use Rattle.std.proofs.Common.{◌≡◌, ◌≢◌, ◌==◌, ◌-◌, ◌⊎◌, Bool, false, ℕ, ◌<◌, List, [], ◌∷◌, ◌++◌, length, slice_get, slice_set, Some, None, Ok, position, refl}
+use Rattle.std.proofs.Common.{ap, arith}
 use Rattle.std.specs.List.{All, Contains, find, remove}
 use Rattle.std.proofs.lemmas.List.{length_push}
 use Rattle.cred_ids.specs.Limits.{SLOTS}
@@ -15,13 +16,15 @@ use Rattle.cred_event.specs.declared.answer.Answer.{Answer}
 use Rattle.cred_event.specs.declared.answer.Answer.TheVariants.{Done, Sealed, Began, Acted, Aborted}
 use Rattle.cred_event.specs.declared.answer.AbortCause.{AbortCause}
 use Rattle.cred_model.specs.Script.{Script, chain_of, root_of}
-use Rattle.cred_model.specs.State.{State, SealedCred, Task, Broadcast, OpenFile, Hold, Prepared, Changed, Numbered, numbered, task_of, cast_of, cast_in, begun_by, hold_of, prepared_of, current_of, info_of}
+use Rattle.cred_model.specs.State.{State, SealedCred, Task, Broadcast, OpenFile, Hold, Prepared, Changed, Numbered, numbered, task_of, cast_of, cast_in}
+use Rattle.cred_model.specs.State.{begun_by, hold_of, prepared_of, current_of, info_of}
 use Rattle.cred_model.specs.Slots.{refs, kept}
 use Rattle.cred_model.specs.Named.{change_files}
-use Rattle.cred_model.specs.Changing.{changed_file, changed_by}
+use Rattle.cred_model.specs.FileChanges.{changed_file, changed_by}
 use Rattle.cred_model.specs.Change.{by_change}
 use Rattle.cred_model.specs.Ends.{is_task, is_thread_of, survivors}
-use Rattle.cred_model.specs.Dumpable.{is_dumpable, with_process_flag, set_flag, without_flag, differs, renewed, flags_committed, flags_begun, flags_left, flag_of_value}
+use Rattle.cred_model.specs.Dumpable.{is_dumpable, with_process_flag, set_flag, without_flag, differs, renewed, flags_committed, flags_begun, flags_left}
+use Rattle.cred_model.specs.Dumpable.{flag_of_value}
 use Rattle.cred_model.specs.Casts.{others_of, with_cast, waits_no_more, joined, dropped}
 use Rattle.cred_model.specs.Moves.{with_change, with_current, with_overrides, first_task}
 use Rattle.cred_model.specs.Step.{commit_answer, ends_with}
@@ -182,7 +185,8 @@ pub data PreparedChange (script : Script) (s : State) (event : Event) (left : Li
       → PreparedChange script s event left t
   Alters : (label : ℕ) (to : Changed) (p : Prepared) (base : Numbered) (answer : Answer)
       → t.prepared ≡ with_change s.prepared label to → prepared_of s label ≡ Some p → numbered s.creds p.base ≡ Some base
-      → by_change (info_of s.infos (change_files to.change)) (chain_of script base.cred.ns) base.cred to.change ≡ Ok (record { answer = answer; cred = to.cred; gains = to.gains })
+      → by_change (info_of s.infos (change_files to.change)) (chain_of script base.cred.ns) base.cred to.change
+      ≡ Ok (record { answer = answer; cred = to.cred; gains = to.gains })
       → event ≡ Alter label to.change → PreparedChange script s event left t
   Ends : (label place : ℕ) (p : Prepared) → SealsOf event label ⊎ (event ≡ Abort label)
       → t.prepared ≡ remove s.prepared place → position (λ p. p.label == label) s.prepared ≡ Some place

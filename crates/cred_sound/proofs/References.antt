@@ -6,10 +6,10 @@ use Rattle.std.proofs.lemmas.List.Elements.{All-contains_itself, All-weaker}
 use Rattle.std.proofs.lemmas.List.FromFn.{get_or-range_with_len, length-range_with_len}
 use Rattle.std.proofs.lemmas.Bool.{eqb-false}
 use Rattle.std.proofs.lemmas.Option.{slice_get-map}
-use Rattle.cred_ids.specs.Limits.{SLOTS}
+use Rattle.cred_ids.specs.Limits.{SLOTS, slots}
 use Rattle.cred_event.specs.declared.event.Side.{Side}
 use Rattle.cred_model.specs.State.{State, SealedCred, Task, OpenFile, Hold, Prepared, Numbered, task_of, current_of, credential_of, opener_of, hold_of, held_by}
-use Rattle.cred_model.specs.Slots.{refs, kept, stands_in, is_live, is_kept, slots, least_free}
+use Rattle.cred_model.specs.Slots.{refs, kept, stands_in, is_live, is_kept, least_free}
 use Rattle.cred_model.proofs.Referred.{EachRef, each_ref}
 use Rattle.cred_model.proofs.LikeReads.{current_by, credential_by, opener_by, held_by_each}
 use Rattle.cred_model.proofs.Lists.{All-at, find_each, or_left, or_right, none_passes, found}

@@ -22,7 +22,8 @@ use Rattle.cred_sound.specs.Sound.{IsSound, StatesAreSound}
 use Rattle.cred_sound.proofs.Moves.{Apart, fewer, keeps, seals}
 use Rattle.cred_model.proofs.Referred.{refs_each, each_deferred}
 use Rattle.cred_sound.proofs.References.{own_refs, current_stands}
-use Rattle.cred_sound.proofs.Parts.{with_left, Old, OldOrNew, grows, Changes, CredsChange, TasksChange, ListChange, PreparedChange, SameCreds, Seals, SameTasks, SetsFlag, Creates, Shares, Renews, Overrides, Fewer, Stays, Adds, Removes, SamePrepared, Prepares, Alters, Ends}
+use Rattle.cred_sound.proofs.Parts.{with_left, Old, OldOrNew, grows, Changes, CredsChange, TasksChange, ListChange, PreparedChange, SameCreds, Seals, SameTasks}
+use Rattle.cred_sound.proofs.Parts.{SetsFlag, Creates, Shares, Renews, Overrides, Fewer, Stays, Adds, Removes, SamePrepared, Prepares, Alters, Ends}
 use Rattle.cred_sound.proofs.Events.{changes}
 use Rattle.cred_sound.specs.Casts.{IsUnderWay}
 use Rattle.cred_sound.specs.Flags.{AreFlagged}
@@ -115,7 +116,8 @@ swept_orderly : (s : State) (left : List ℕ) → All (Contains s.deferred) left
 swept_orderly s left among order =
     fewer (ledger s) (in_use s) left (kept s)
     (refs_each (Contains (refs s)) (with_left s left)
-    (each_deferred (own_refs s) left (All-weaker (Contains s.deferred) (Contains (refs s)) (λ n has. All-contains (Contains (refs s)) s.deferred n (own_refs s).deferred has) left among)))
+    (each_deferred (own_refs s) left
+    (All-weaker (Contains s.deferred) (Contains (refs s)) (λ n has. All-contains (Contains (refs s)) s.deferred n (own_refs s).deferred has) left among)))
     (All-contains_itself (kept s)) order.own order
 
 -- then the slots that are kept
@@ -135,7 +137,8 @@ kept_orderly script s event left t (Prepares p prepared fresh unheld new has fre
     (keeps (ledger (with_left s left)) p.slot free.below free.clear free.unkept order)
 kept_orderly script s event left t (Alters label to p base answer prepared is at so acts) order =
     subst (λ k. IsOrderly (with_kept (ledger (with_left s left)) k))
-    (sym (ap (map slot_of) prepared ∙ map_same slot_of (relabelled label to) s.prepared (λ p. changed_as (λ q. q.slot ≡ p.slot) label to p (λ test. refl) refl)))
+    (sym
+    (ap (map slot_of) prepared ∙ map_same slot_of (relabelled label to) s.prepared (λ p. changed_as (λ q. q.slot ≡ p.slot) label to p (λ test. refl) refl)))
     order
 kept_orderly script s event left t (Ends label place p ends prepared at is) order =
     let now = ledger (with_left s left) in

@@ -10,13 +10,14 @@ use Rattle.cred_event.specs.declared.answer.Answer.{Answer}
 use Rattle.cred_model.specs.State.{State, Task, Broadcast}
 use Rattle.cred_model.specs.Slots.{least_free, swept}
 use Rattle.cred_model.specs.Casts.{not_busy}
-use Rattle.cred_model.specs.Answers.{is_ok}
+use Rattle.cred_event.specs.Answers.{is_ok}
 use Rattle.cred_model.specs.Change.{by_rule}
-use Rattle.cred_model.specs.Moves.{◌>>=◌, none_or, fewer_or, unless_refused, not_overridden}
+use Rattle.cred_model.specs.Moves.{none_or, fewer_or, unless_refused, not_overridden}
 use Rattle.cred_model.specs.Moves.{in_slot}
 use Rattle.cred_model.specs.Step.{outcome}
 use Rattle.cred_sound.proofs.References.{IsFree, free_slot}
 use Rattle.cred_sound.proofs.Parts.{with_left}
+use Rattle.cred_ids.specs.Tests.{◌>>=◌}
 
 -- ---- an event's tests
 

@@ -1,5 +1,6 @@
 -- Broadcasts stay under way: by what becomes of the threads, and of those that wait.
-use Rattle.std.proofs.Common.{◌≡◌, ◌≢◌, ◌==◌, ◌&&◌, ◌||◌, not, ℕ, List, [], ◌∷◌, ◌++◌, map, get_or, Option, Some, None, Bool, true, false, cond, refl, sym, ap, ◌∙◌, subst, arith}
+use Rattle.std.proofs.Common.{◌≡◌, ◌≢◌, ◌==◌, ◌&&◌, ◌||◌, not, ℕ, List, [], ◌∷◌, ◌++◌, map, get_or, Option, Some, None, Bool, true, false, cond, refl, sym, ap}
+use Rattle.std.proofs.Common.{◌∙◌, subst, arith}
 use Rattle.std.specs.List.{All, AllPairs, filter, find, list_any}
 use Rattle.std.specs.Option.{option_map, option_or}
 use Rattle.std.proofs.lemmas.List.Elements.{All-cons, All-filter, All-head, All-map, All-nil, All-push, All-tail, All-weaker}
@@ -16,7 +17,8 @@ use Rattle.cred_model.specs.Ends.{is_beside, survivors}
 use Rattle.cred_model.specs.Casts.{waits_in, is_open, with_cast, without_waiter, waits_no_more, with_child, joined, dropped}
 use Rattle.cred_model.proofs.Numbers.{found_number}
 use Rattle.cred_model.proofs.Lists.{AllPairs-map, AllPairs-weaker, Differ, find_changed, none_passes}
-use Rattle.cred_model.proofs.Rising.{AllPairs-head, AllPairs-tail, All-in_order, any-in_order, length-in_order, rising-in_order, rising_differ, Below, All-passed, find-filter}
+use Rattle.cred_model.proofs.Rising.{AllPairs-head, AllPairs-tail, All-in_order, any-in_order, length-in_order, rising-in_order, rising_differ, Below}
+use Rattle.cred_model.proofs.Rising.{All-passed, find-filter}
 use Rattle.cred_sound.specs.Casts.{IsThread, IsUnderWay}
 use Rattle.cred_sound.proofs.Parts.{begun}
 use Rattle.cred_sound.proofs.Unique.{none_has}

@@ -17,7 +17,8 @@ use Rattle.cred_model.specs.Ends.{survivors}
 use Rattle.cred_model.specs.Moves.{updated, overriding, relabelled, first_task}
 use Rattle.cred_model.proofs.Lists.{All-kept, All-remove, AllPairs-map, AllPairs-weaker, Differ, found_none, none_found}
 use Rattle.cred_model.proofs.Numbers.{updated_number, overriding_number, changed_as, changed_label}
-use Rattle.cred_sound.proofs.Parts.{ListChange, TasksChange, HoldsChange, PreparedChange, SameTasks, SetsFlag, Creates, Shares, Renews, Overrides, Fewer, Stays, Adds, Removes, SamePrepared, Prepares, Alters, Ends}
+use Rattle.cred_sound.proofs.Parts.{ListChange, TasksChange, HoldsChange, PreparedChange, SameTasks, SetsFlag, Creates, Shares, Renews, Overrides, Fewer, Stays}
+use Rattle.cred_sound.proofs.Parts.{Adds, Removes, SamePrepared, Prepares, Alters, Ends}
 
 -- where none is found of a number, each has another
 pub none_has : {X : Type 0} (f : X → ℕ) (xs : List X) (n : ℕ) → find (λ x. f x == n) xs ≡ None → All (λ x. f x ≢ n) xs

@@ -29,7 +29,7 @@ abbrev pub referred : Ledger → List ℕ
 referred l = l.in_use ++ l.deferred
 
 -- the credential of this number stands in the slot
-abbrev pub StandsIn : List ℕ → ℕ → ℕ → Type 0
+abbrev pub StandsIn : List ℕ → (slot number : ℕ) → Type 0
 StandsIn slots slot number = slice_get slots number ≡ Some slot
 
 -- none of these numbers stands in the slot

@@ -1,6 +1,5 @@
-//! What holds in every state that a run comes to, whatever was entered: the references are to
-//! sealed credentials, in slots of their own, the names are unique, and no more tasks live than
-//! may.
+//! What holds in every state of a run: references and slots in order, names unique, as many tasks
+//! as may live.
 //!
 //! Below the laws and the book, so that both take it from here. The proof goes by parts: what an
 //! event may change of the tasks, the broadcasts, the open files, the holds, the prepared labels

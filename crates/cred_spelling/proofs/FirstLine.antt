@@ -6,7 +6,8 @@ use Rattle.std.proofs.Math.Seq.{take-length}
 use Rattle.cred_spelling.specs.Lines.{lines_of, is_printable_byte, is_printable}
 
 -- the first line ends at the first LF
-pub lines_of_at : (bytes : List ℕ) (end : ℕ) → end < length bytes → ((k : ℕ) → k < end → get_or bytes k 0 ≢ 10) → get_or bytes end 0 ≡ 10 → lines_of bytes ≡ take end bytes ∷ lines_of (drop (suc end) bytes)
+pub lines_of_at : (bytes : List ℕ) (end : ℕ) → end < length bytes → ((k : ℕ) → k < end → get_or bytes k 0 ≢ 10) → get_or bytes end 0 ≡ 10
+    → lines_of bytes ≡ take end bytes ∷ lines_of (drop (suc end) bytes)
 lines_of_at [] end lt before found = absurd (omega arith)
 lines_of_at (b ∷ bs) zero lt before found =
     let test : (b == 10) ≡ true = grind (arith, nat_tests) in rw test refl
@@ -40,13 +41,15 @@ not_end : (byte : ℕ) → is_printable_byte byte ≡ true → byte ≢ 10
 not_end byte is = grind (arith, nat_tests)
 
 -- what is printable up to a place is printable
-pub printable_before : (bytes : List ℕ) (end : ℕ) → end ≤ length bytes → ((k : ℕ) → k < end → is_printable_byte (get_or bytes k 0) ≡ true) → is_printable (take end bytes) ≡ true
+pub printable_before : (bytes : List ℕ) (end : ℕ) → end ≤ length bytes → ((k : ℕ) → k < end → is_printable_byte (get_or bytes k 0) ≡ true)
+    → is_printable (take end bytes) ≡ true
 printable_before bytes zero le good = refl
 printable_before [] (suc end) le good = absurd (omega arith)
 printable_before (b ∷ bs) (suc end) le good =
     rw (good 0 (omega arith)) (printable_before bs end (omega arith) (λ k lt. good (suc k) (omega arith)))
 
-pub printable_all : (bytes : List ℕ) (end : ℕ) → end ≡ length bytes → ((k : ℕ) → k < end → is_printable_byte (get_or bytes k 0) ≡ true) → is_printable bytes ≡ true
+pub printable_all : (bytes : List ℕ) (end : ℕ) → end ≡ length bytes → ((k : ℕ) → k < end → is_printable_byte (get_or bytes k 0) ≡ true)
+    → is_printable bytes ≡ true
 printable_all bytes end all good = rw (← take-length bytes) (rw (← all) (printable_before bytes end (omega arith) good))
 
 pub no_end_before : (bytes : List ℕ) (end : ℕ) → ((k : ℕ) → k < end → is_printable_byte (get_or bytes k 0) ≡ true) → (k : ℕ) → k < end → get_or bytes k 0 ≢ 10

@@ -1,5 +1,6 @@
 -- The words of a line, read one after another.
-use Rattle.std.proofs.Common.{◌≡◌, ◌≢◌, ℕ, zero, suc, ◌-◌, ◌<◌, ◌≤◌, ◌&&◌, Bool, true, false, not, List, [], ◌∷◌, ◌++◌, length, filter, take, drop, get_or, ◌==◌, cond, All, refl, sym, subst, ap, ◌∙◌, append_assoc, length-append, arith}
+use Rattle.std.proofs.Common.{◌≡◌, ◌≢◌, ℕ, zero, suc, ◌-◌, ◌<◌, ◌≤◌, ◌&&◌, Bool, true, false, not, List, [], ◌∷◌, ◌++◌, length, filter, take, drop, get_or}
+use Rattle.std.proofs.Common.{◌==◌, cond, All, refl, sym, subst, ap, ◌∙◌, append_assoc, length-append, arith}
 use Rattle.std.specs.List.{list_all, onto_first, slice_split}
 use Rattle.std.proofs.lemmas.Bool.Decides.{nat_tests}
 use Rattle.std.proofs.lemmas.List.{append-nil, take_rest, take-append-le, take_all}
@@ -47,7 +48,8 @@ kept : (word : List ℕ) (words : List (List ℕ)) → filter (λ w. not (length
 kept [] words = refl
 kept (b ∷ bs) words = let test : (suc (length bs) == 0) ≡ false = grind (arith, nat_tests) in rw test refl
 
-pub word_before : (bytes word : List ℕ) (end : ℕ) → word ≡ take end bytes → ((k : ℕ) → k < end → is_word_byte (get_or bytes k 0) ≡ true) → list_all is_word_byte word ≡ true
+pub word_before : (bytes word : List ℕ) (end : ℕ) → word ≡ take end bytes → ((k : ℕ) → k < end → is_word_byte (get_or bytes k 0) ≡ true)
+    → list_all is_word_byte word ≡ true
 word_before bytes word zero is good = rw is refl
 word_before [] word (suc end) is good = rw is refl
 word_before (b ∷ bs) word (suc end) is good =
@@ -67,16 +69,16 @@ word_last word h =
 
 -- Words were read up to a place of the line, at which the last of them ends.
 pub record IsPast (bytes behind : List ℕ) (words : List (List ℕ)) : Type 0 where
-  pub front : List ℕ
-  pub joined : bytes ≡ front ++ behind
-  pub printable : is_printable front ≡ true
-  pub all : line_words front ≡ words
-  pub more : (tail : List ℕ) → line_words (front ++ 32 ∷ tail) ≡ words ++ line_words tail
+  pub prefix : List ℕ
+  pub joined : bytes ≡ prefix ++ behind
+  pub printable : is_printable prefix ≡ true
+  pub all : line_words prefix ≡ words
+  pub more : (tail : List ℕ) → line_words (prefix ++ 32 ∷ tail) ≡ words ++ line_words tail
   pub stops : Stops behind
 
 pub past_first : (bytes word behind : List ℕ) → bytes ≡ word ++ behind → list_all is_word_byte word ≡ true → Stops behind → IsPast bytes behind (some_word word)
 past_first bytes word behind joined h stops = record {
-  front = word;
+  prefix = word;
   joined = joined;
   printable = printable_word word h;
   all = word_last word h;
@@ -88,19 +90,19 @@ pub past_next : (bytes rest word behind : List ℕ) (words : List (List ℕ)) �
     → rest ≡ word ++ behind → list_all is_word_byte word ≡ true → Stops behind → IsPast bytes behind (words ++ some_word word)
 past_next bytes rest word behind words past is h stops =
     record {
-      front = past.front ++ 32 ∷ word;
-      joined = past.joined ∙ ap (λ (r : List ℕ). past.front ++ 32 ∷ r) is ∙ sym (append_assoc past.front (32 ∷ word) behind);
-      printable = printable_both past.front (32 ∷ word) past.printable (printable_word word h);
+      prefix = past.prefix ++ 32 ∷ word;
+      joined = past.joined ∙ ap (λ (r : List ℕ). past.prefix ++ 32 ∷ r) is ∙ sym (append_assoc past.prefix (32 ∷ word) behind);
+      printable = printable_both past.prefix (32 ∷ word) past.printable (printable_word word h);
       all = past.more word ∙ ap (λ (w : List (List ℕ)). words ++ w) (word_last word h);
       more = λ tail.
-          ap line_words (append_assoc past.front (32 ∷ word) (32 ∷ tail))
+          ap line_words (append_assoc past.prefix (32 ∷ word) (32 ∷ tail))
           ∙ past.more (word ++ 32 ∷ tail)
           ∙ ap (λ (w : List (List ℕ)). words ++ w) (word_then word tail h)
           ∙ sym (append_assoc words (some_word word) (line_words tail));
       stops = stops;
     }
 
-line_then : (front after : List ℕ) → is_printable front ≡ true → lines_of (front ++ 10 ∷ after) ≡ front ∷ lines_of after
+line_then : (prefix after : List ℕ) → is_printable prefix ≡ true → lines_of (prefix ++ 10 ∷ after) ≡ prefix ∷ lines_of after
 line_then [] after h = refl
 line_then (b ∷ bs) after h =
     let parts = both (is_printable_byte b) _ h in
@@ -117,32 +119,34 @@ at_first [] b some is = absurd (omega arith)
 at_first (x ∷ xs) b some is = rw (take_rest (x ∷ xs) 1) (ap (λ (y : ℕ). y ∷ xs) is)
 
 -- the first line is all that there is
-pub whole_line : (bytes behind : List ℕ) (words : List (List ℕ)) → 0 < length bytes → length behind < 1 → IsPast bytes behind words → lines_of bytes ≡ bytes ∷ lines_of behind
+pub whole_line : (bytes behind : List ℕ) (words : List (List ℕ)) → 0 < length bytes → length behind < 1 → IsPast bytes behind words
+    → lines_of bytes ≡ bytes ∷ lines_of behind
 whole_line [] behind words some none past = absurd (omega arith)
 whole_line (b ∷ bs) [] words some none past =
-    let all : b ∷ bs ≡ past.front = past.joined ∙ append-nil past.front in
+    let all : b ∷ bs ≡ past.prefix = past.joined ∙ append-nil past.prefix in
     line_last b bs (subst (λ (l : List ℕ). is_printable l ≡ true) (sym all) past.printable)
 whole_line bytes (x ∷ xs) words some none past = absurd (omega arith)
 
-take_front : (front rest : List ℕ) (n : ℕ) → n ≡ length front → take n (front ++ rest) ≡ front
-take_front front rest n is = grind (arith, take-append-le, take_all)
+take_prefix : (prefix rest : List ℕ) (n : ℕ) → n ≡ length prefix → take n (prefix ++ rest) ≡ prefix
+take_prefix prefix rest n is = grind (arith, take-append-le, take_all)
 
 -- the first line ends with LF
 pub ended_line : (bytes behind : List ℕ) (words : List (List ℕ)) → 1 ≤ length behind → get_or behind 0 0 ≡ 10 → IsPast bytes behind words
     → lines_of bytes ≡ take (length bytes - length behind) bytes ∷ lines_of (take (length behind - 1) (drop 1 behind))
 ended_line bytes behind words some is past =
-    let long = ap length past.joined ∙ length-append past.front behind in
-    let front : take (length bytes - length behind) bytes ≡ past.front =
-    ap (take (length bytes - length behind)) past.joined ∙ take_front past.front behind _ (omega arith) in
-    let joined = past.joined ∙ ap (λ (l : List ℕ). past.front ++ l) (at_first behind 10 some is) in
-    rw front (ap lines_of joined ∙ line_then past.front _ past.printable)
+    let long = ap length past.joined ∙ length-append past.prefix behind in
+    let prefix : take (length bytes - length behind) bytes ≡ past.prefix =
+    ap (take (length bytes - length behind)) past.joined ∙ take_prefix past.prefix behind _ (omega arith) in
+    let joined = past.joined ∙ ap (λ (l : List ℕ). past.prefix ++ l) (at_first behind 10 some is) in
+    rw prefix (ap lines_of joined ∙ line_then past.prefix _ past.printable)
 
 -- what stands before the first line feed is the first line, or a part of it
-some_line : (b : ℕ) (texts : List (List ℕ)) (line : List ℕ) (lines : List (List ℕ)) → onto_first b texts ≡ line ∷ lines → is_printable_byte b ≡ false → is_printable line ≡ false
+some_line : (b : ℕ) (texts : List (List ℕ)) (line : List ℕ) (lines : List (List ℕ)) → onto_first b texts ≡ line ∷ lines → is_printable_byte b ≡ false
+    → is_printable line ≡ false
 some_line b [] line lines is bad = let e : line ≡ b ∷ [] = cc in rw (e, bad) refl
 some_line b (l ∷ ls) line lines is bad = let e : line ≡ b ∷ l = cc in rw (e, bad) refl
 
-some_text : (front : List ℕ) (b : ℕ) (more : List ℕ) → lines_of (front ++ b ∷ more) ≢ []
+some_text : (prefix : List ℕ) (b : ℕ) (more : List ℕ) → lines_of (prefix ++ b ∷ more) ≢ []
 some_text [] b more is = none (b == 10) (lines_of more) is
   where
     none : (t : Bool) (texts : List (List ℕ)) → cond t ([] ∷ texts) (onto_first b texts) ≢ []
@@ -156,7 +160,8 @@ some_text (x ∷ xs) b more is = none (x == 10) (lines_of (xs ++ b ∷ more)) is
     none false [] is = absurd (cc)
     none false (l ∷ ls) is = absurd (cc)
 
-more_bytes : (x : ℕ) (texts : List (List ℕ)) (line : List ℕ) (lines : List (List ℕ)) → ((l : List ℕ) (ls : List (List ℕ)) → texts ≡ l ∷ ls → is_printable l ≡ false)
+more_bytes : (x : ℕ) (texts : List (List ℕ)) (line : List ℕ) (lines : List (List ℕ))
+    → ((l : List ℕ) (ls : List (List ℕ)) → texts ≡ l ∷ ls → is_printable l ≡ false)
     → texts ≢ [] → onto_first x texts ≡ line ∷ lines → is_printable line ≡ false
 more_bytes x [] line lines next some is = absurd (some refl)
 more_bytes x (l ∷ ls) line lines next some is =
@@ -168,8 +173,9 @@ more_bytes x (l ∷ ls) line lines next some is =
     falsely false = refl
 
 -- a byte that isn't printable stands in the first line, where no line ends before it
-unprintable : (front : List ℕ) (b : ℕ) (more line : List ℕ) (lines : List (List ℕ)) → is_printable front ≡ true → is_printable_byte b ≡ false → (b == 10) ≡ false
-    → lines_of (front ++ b ∷ more) ≡ line ∷ lines → is_printable line ≡ false
+unprintable : (prefix : List ℕ) (b : ℕ) (more line : List ℕ) (lines : List (List ℕ)) → is_printable prefix ≡ true → is_printable_byte b ≡ false
+    → (b == 10) ≡ false
+    → lines_of (prefix ++ b ∷ more) ≡ line ∷ lines → is_printable line ≡ false
 unprintable [] b more line lines h bad inner is =
     some_line b (lines_of more) line lines (sym (ap (λ (t : Bool). cond t ([] ∷ lines_of more) (onto_first b (lines_of more))) inner) ∙ is) bad
 unprintable (x ∷ xs) b more line lines h bad inner is =
@@ -185,4 +191,4 @@ pub bad_line : (bytes behind line after : List ℕ) (words : List (List ℕ)) �
 bad_line bytes [] line after words some other ended past is = absurd (omega arith)
 bad_line bytes (b ∷ more) line after words some other ended past is =
     let test : (b == 10) ≡ false = grind (arith, nat_tests) in
-    unprintable past.front b more line (lines_of after) past.printable (unprintable_byte b past.stops other) test (ap lines_of (sym past.joined) ∙ is)
+    unprintable past.prefix b more line (lines_of after) past.printable (unprintable_byte b past.stops other) test (ap lines_of (sym past.joined) ∙ is)

@@ -1,5 +1,6 @@
 -- The library's parsing of numbers reads exactly the numerals.
-use Rattle.std.proofs.Common.{◌≡◌, ◌≢◌, ℕ, ◌^◌, ◌≤◌, ◌<◌, ◌+◌, ◌*◌, Option, IfSome, subst, List, [], ◌∷◌, get_or, length, Some, None, Result, Ok, Err, Bool, true, false, cond, ◌==◌, nat_lt, ◌&&◌, refl, ap, arith}
+use Rattle.std.proofs.Common.{◌≡◌, ◌≢◌, ℕ, ◌^◌, ◌≤◌, ◌<◌, ◌+◌, ◌*◌, Option, IfSome, subst, List, [], ◌∷◌, get_or, length, Some, None, Result, Ok, Err, Bool}
+use Rattle.std.proofs.Common.{true, false, cond, ◌==◌, nat_lt, ◌&&◌, refl, ap, arith}
 use Rattle.std.specs.Result.{OkIff, result_ok}
 use Rattle.std.specs.Str.{all_ascii_digits, IsUtf8}
 use Rattle.std.specs.Str.Parse.{digits_value, digits_value_after, ParsesUnsigned}
@@ -17,7 +18,8 @@ own = numerals_by_value _ tells_all_ascii_digits
 plain_numeral : (d : ℕ) (ds : List ℕ) → d ≢ 48 → is_numeral (d ∷ ds) ≡ all_ascii_digits (d ∷ ds)
 plain_numeral d ds other = let test : (d == 48) ≡ false = grind (arith, nat_tests) in rw test refl
 
-parsed : {E : Type 0} (bs : List ℕ) (a b : Bool) (r : Result ℕ E) (v : ℕ) (P : Type 0) → OkIff r P v → (P → (a ≡ true) × (b ≡ true)) → ((a ≡ true) → (b ≡ true) → P) → result_ok r ≡ cond (a && b) (Some v) None
+parsed : {E : Type 0} (bs : List ℕ) (a b : Bool) (r : Result ℕ E) (v : ℕ) (P : Type 0) → OkIff r P v → (P → (a ≡ true) × (b ≡ true))
+    → ((a ≡ true) → (b ≡ true) → P) → result_ok r ≡ cond (a && b) (Some v) None
 parsed bs true true (Ok x) v P h to from = ap Some h.1
 parsed bs true true (Err e) v P h to from = absurd (h (from refl refl))
 parsed bs true false (Ok x) v P h to from = absurd (let e = (to h.0).1 in cc)
@@ -33,7 +35,8 @@ none_if false b v no_a = refl
 abbrev below : ℕ → List ℕ → Option ℕ
 below bits word = cond (is_numeral word && nat_lt (digits_value 10 word) (2 ^ bits)) (Some (digits_value 10 word)) None
 
-below_parsed : {E : Type 0} (bits : ℕ) (bs : List ℕ) (r : Result ℕ E) → ParsesUnsigned bits 10 bs r → 1 ≤ length bs → 49 ≤ get_or bs 0 0 → result_ok r ≡ below bits bs
+below_parsed : {E : Type 0} (bits : ℕ) (bs : List ℕ) (r : Result ℕ E) → ParsesUnsigned bits 10 bs r → 1 ≤ length bs → 49 ≤ get_or bs 0 0
+    → result_ok r ≡ below bits bs
 below_parsed bits [] r h some low = absurd (omega arith)
 below_parsed bits (d ∷ ds) r h some low =
     let other : d ≢ 48 = λ e. omega arith in

@@ -99,7 +99,7 @@ abbrev pub number_within : ℕ → ℕ → List ℕ → Option ℕ
 number_within least most word = option_and_then (within least most) (number_of word)
 
 -- a letter, and a number from the least to the most
-abbrev pub letter_number : ℕ → ℕ → ℕ → List ℕ → Option ℕ
+abbrev pub letter_number : (letter least most : ℕ) → List ℕ → Option ℕ
 letter_number letter least most [] = None
 letter_number letter least most (first ∷ digits) =
     if first == letter then number_within least most digits else None

@@ -16,12 +16,6 @@ line_words line = filter (λ word. not (length word == 0)) (slice_split (λ byte
 abbrev pub is_comment : List ℕ → Bool
 is_comment word = get_or word 0 0 == 35
 
--- What follows a step that was refused isn't asked.
-infixl 10 ◌>>=◌
-abbrev pub ◌>>=◌ : {A B E : Type 0} → Result A E → (A → Result B E) → Result B E
-(Ok x) >>= f = f x
-(Err e) >>= f = Err e
-
 -- what a word spells
 abbrev pub word_of : {A : Type 0} → (List ℕ → Option A) → List ℕ → Result A Reason
 word_of spelled word = ok_or (spelled word) Word

@@ -33,7 +33,7 @@ pub enum EventName {
     TakeReal,
     /// A label takes hold of the credential that an open file was opened by.
     TakeFile,
-    /// A label lets go.
+    /// A label drops its hold.
     Release,
     /// A question about what a label holds.
     Ask,
@@ -53,7 +53,7 @@ pub enum EventName {
     Begin,
     /// The next thread that waits takes its step in a call.
     Act,
-    /// All that was given up is let go.
+    /// All that was given up is dropped.
     Sweep,
 }
 

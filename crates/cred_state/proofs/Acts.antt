@@ -1,5 +1,6 @@
 -- A thread that waits makes its step in a broadcast, or its process ends.
-use Rattle.std.proofs.Common.{◌≡◌, ℕ, Bool, ◌+◌, ◌-◌, ◌<◌, ◌==◌, List, ◌++◌, ◌⊎◌, length, slice_get, slice_set, Option, None, Some, is_some, true, Result, Ok, Err, IfOk, OnOk, inl, inr, refl, sym, ap, ◌∙◌, subst, arith}
+use Rattle.std.proofs.Common.{◌≡◌, ℕ, Bool, ◌+◌, ◌-◌, ◌<◌, ◌==◌, List, ◌++◌, ◌⊎◌, length, slice_get, slice_set, Option, None, Some, is_some, true, Result, Ok}
+use Rattle.std.proofs.Common.{Err, IfOk, OnOk, inl, inr, refl, sym, ap, ◌∙◌, subst, arith}
 use Rattle.std.specs.Option.{IfSome, IsSome, IsSomeAnd, option_and_then, option_map}
 use Rattle.std.proofs.lemmas.Option.{slice_get_within}
 use Rattle.cred_ids.specs.Limits.{SLOTS}
@@ -19,7 +20,7 @@ use Rattle.cred_model.specs.Casts.{dropped, waits_in, waits_no_more}
 use Rattle.cred_model.specs.Dumpable.{differs, renewed, without_flag}
 use Rattle.cred_model.specs.Ends.{is_thread_of, survivors, left_by}
 use Rattle.cred_model.specs.Like.{IsOutcomeLike}
-use Rattle.cred_model.specs.Moves.{in_slot, with_current, replaced}
+use Rattle.cred_model.specs.Moves.{in_slot, with_current, replaced, at_abort}
 use Rattle.cred_model.specs.Step.{aborted, by_act, outcome}
 use Rattle.cred_model.proofs.Likes.{does_same}
 use Rattle.cred_model.proofs.Lists.{found, slice_get_at}
@@ -30,7 +31,7 @@ use Rattle.cred_sound.proofs.Threads.{thread_is, waits_at}
 use Rattle.cred_cast.proofs.Conditions.{least_waits}
 use Rattle.cred_slots.specs.Table.{Table, IsSameBag}
 use Rattle.cred_slots.specs.Table as table
-use Rattle.cred_tables.specs.Begin.{at_abort, table_at}
+use Rattle.cred_tables.specs.Begin.{table_at}
 use Rattle.cred_tables.specs.Kept.{Parts, state_of, IsKept, Seals}
 use Rattle.cred_state.proofs.Begins.{replaced_kept, replaced_made, counts_next}
 use Rattle.cred_state.proofs.Broadcasts.{kept_beside}
@@ -48,7 +49,8 @@ pub some_mapped : {X Y Z : Type 0} (f : X → Z) (g : Y → Z) (x : Option X) (y
 some_mapped f g None y b is at = let none : None ≡ Some (g b) = is ∙ ap (option_map g) at in cc
 some_mapped f g (Some x) y b is at = refl
 
-pub mapped_is : {X Y Z : Type 0} (f : X → Z) (g : Y → Z) (x : Option X) (y : Option Y) (a : X) (b : Y) → option_map f x ≡ option_map g y → x ≡ Some a → y ≡ Some b
+pub mapped_is : {X Y Z : Type 0} (f : X → Z) (g : Y → Z) (x : Option X) (y : Option Y) (a : X) (b : Y) → option_map f x ≡ option_map g y → x ≡ Some a
+    → y ≡ Some b
     → f a ≡ g b
 mapped_is f g x y a b is here there =
     let both : Some (f a) ≡ Some (g b) = sym (ap (option_map f) here) ∙ is ∙ ap (option_map g) there in cc
@@ -75,7 +77,8 @@ next-lives next = ap is_some next.lives
 pub next_is : (s : State) (number task : ℕ) → IsSound s → Some task ≡ option_and_then (λ b. slice_get b.waiting 0) (cast_of s number) → IsNext s number task
 next_is s number task sound is = by (cast_of s number) refl is
   where
-    by : (opened : Option Broadcast) → cast_of s number ≡ opened → Some task ≡ option_and_then (λ (b : Broadcast). slice_get b.waiting 0) opened → IsNext s number task
+    by : (opened : Option Broadcast) → cast_of s number ≡ opened → Some task ≡ option_and_then (λ (b : Broadcast). slice_get b.waiting 0) opened
+        → IsNext s number task
     by None at is = cc
     by (Some cast) at is =
         let under_way = (found (IsUnderWay s.tasks) (λ (b : Broadcast). b.number == number) s.casts cast at sound.under_way).0 in
@@ -84,7 +87,8 @@ next_is s number task sound is = by (cast_of s number) refl is
         record { cast = cast; found = at; least = sym is; owner = thread.task; lives = thread.is; of = thread.of }
 
 -- the call that the thread makes is that of its broadcast
-pub call_is : {s : State} {number task : ℕ} (next : IsNext s number task) (call : IdCall) → Some call ≡ option_map (λ b. b.call) (cast_of s number) → call ≡ next.cast.call
+pub call_is : {s : State} {number task : ℕ} (next : IsNext s number task) (call : IdCall) → Some call ≡ option_map (λ b. b.call) (cast_of s number)
+    → call ≡ next.cast.call
 call_is next call is = let both : Some call ≡ Some next.cast.call = is ∙ ap (option_map (λ (b : Broadcast). b.call)) next.found in cc
 
 -- the broadcast's place among the open ones
@@ -170,7 +174,8 @@ abort_table : (cause : AbortCause) (parts : Parts) (store : List (Option Credent
 abort_table Perm parts store t = refl
 abort_table Full parts store t = refl
 
-pub abort_keeps : (cause : AbortCause) {parts : Parts} {store : List (Option Credential)} {t : Table} → IsKept parts store t → IsKept parts store (table_at cause t)
+pub abort_keeps : (cause : AbortCause) {parts : Parts} {store : List (Option Credential)} {t : Table} → IsKept parts store t
+    → IsKept parts store (table_at cause t)
 abort_keeps Perm is = is
 abort_keeps Full {t = t} is = record {
   counted = record { counts = is.counted.counts; keeps = is.counted.keeps };
@@ -183,7 +188,8 @@ abort_held Perm t = refl
 abort_held Full t = refl
 
 -- where an allocation wasn't what failed, and no credential was made, the call's rule denies it
-pub denied : (c : Credential) (old new : IdParts) (why : Refusal) (given : Result Credential Denial) → PartsBecome c old new (Err why) given → (why ≡ refusal.Perm) ⊎ (why ≡ refusal.Invalid)
+pub denied : (c : Credential) (old new : IdParts) (why : Refusal) (given : Result Credential Denial) → PartsBecome c old new (Err why) given
+    → (why ≡ refusal.Perm) ⊎ (why ≡ refusal.Invalid)
     → (denial : Denial) × (given ≡ Err denial)
 denied c old new refusal.Perm given is other = (denial.Perm, is.0)
 denied c old new refusal.Invalid given is other = (denial.Invalid, is.0)
@@ -191,7 +197,8 @@ denied c old new refusal.Memory given is (inl other) = cc
 denied c old new refusal.Memory given is (inr other) = cc
 
 -- what an equation says, where there is an answer
-pub gives_ok : {E : Type 0} (before after : State) (event : Result (Answer × State) Answer) (made : Result Answer E) → IfOk made (λ answer. outcome before event ≡ (answer, after))
+pub gives_ok : {E : Type 0} (before after : State) (event : Result (Answer × State) Answer) (made : Result Answer E)
+    → IfOk made (λ answer. outcome before event ≡ (answer, after))
     → IfOk made (λ answer. IsOutcomeLike (outcome before event) answer after)
 gives_ok before after event (Ok answer) gives = does_same _ _ _ gives
 gives_ok before after event (Err why) gives = tt
@@ -213,7 +220,8 @@ aborts_so s left number task cause after next (Ok answer) same is ends gives =
 aborts_so s left number task cause after next (Err e) same is ends gives = tt
 
 -- more room to spare in the table changes nothing
-pub same_spare : (parts : Parts) (store : List (Option Credential)) (t : Table) {r : Table} {m : ℕ} → r ≡ record t { spare = m } → state_of parts store r ≡ state_of parts store t
+pub same_spare : (parts : Parts) (store : List (Option Credential)) (t : Table) {r : Table} {m : ℕ} → r ≡ record t { spare = m }
+    → state_of parts store r ≡ state_of parts store t
 same_spare parts store t is = ap (λ (x : Table). state_of parts store x) is
 
 -- what all threads of the process referred to was given up, after the sweep if there was one

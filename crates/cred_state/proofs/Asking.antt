@@ -58,7 +58,8 @@ module _ (before : Standing) (cells : TableId) (label : ℕ) (own : Numbered) (h
   were_asked query home =
       were_of before cells (Asking hold query None) (Ask label query) (ap (λ l. Ask l query) its) (ap (λ (h : Held). h.id) is) token sound out home standing
 
-  pub were_opened : (file : ℕ) (want : Want) (fd : ℕ) → AreHome (OpenFile label file want fd) before.words.out → WereLent before (Opening hold file want fd None)
+  pub were_opened : (file : ℕ) (want : Want) (fd : ℕ) → AreHome (OpenFile label file want fd) before.words.out
+      → WereLent before (Opening hold file want fd None)
   were_opened file want fd home =
       were_of before cells (Opening hold file want fd None) (OpenFile label file want fd) (ap (λ l. OpenFile l file want fd) its)
       (ap (λ (h : Held). h.id) is) token sound out home standing
@@ -71,14 +72,14 @@ pub were_signalled : (before : Standing) (cells : TableId) (from label to target
     → IsSound before.state → AreOut before.state before.words.out → AreHome (Signal from label to target) before.words.out
     → IsStanding before → WereLent before (Signalling from a to b None)
 were_signalled before cells from label to target own other a b held theirs first second sound out home standing =
-    let as_entry : Held → Loan = λ h. loan h.label h.slot (Some h.cred) in
+    let as_loan : Held → Loan = λ h. loan h.label h.slot (Some h.cred) in
     let mine = hold_token_is before.state label own held in
     let yours = hold_token_is before.state target other theirs in
     let its : a.label ≡ label = ap (λ (h : Held). h.label) first in
     let of : b.label ≡ target = ap (λ (h : Held). h.label) second in
     were_of before cells (Signalling from a to b None) (Signal from label to target) (λ k. Signal from (its k) to (of k))
     (ap (λ (h : Held). h.id) first, ap (λ (h : Held). h.id) second)
-    ((λ k. as_entry (second k) ∷ as_entry (first k) ∷ []) ∙ sym (λ k. yours k ++ mine k))
+    ((λ k. as_loan (second k) ∷ as_loan (first k) ∷ []) ∙ sym (λ k. yours k ++ mine k))
     sound out home standing
 
 -- what the label prepares

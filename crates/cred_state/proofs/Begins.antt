@@ -1,5 +1,6 @@
 -- A task makes an id call, and the other threads of its process wait.
-use Rattle.std.proofs.Common.{◌≡◌, ◌≢◌, ◌==◌, ℕ, Bool, true, filter, find, is_some, List, [], ◌∷◌, ◌++◌, length, slice_set, Option, None, Some, Ok, Err, refl, sym, ap, ◌∙◌, subst, arith}
+use Rattle.std.proofs.Common.{◌≡◌, ◌≢◌, ◌==◌, ℕ, Bool, true, filter, find, is_some, List, [], ◌∷◌, ◌++◌, length, slice_set, Option, None, Some, Ok, Err, refl}
+use Rattle.std.proofs.Common.{sym, ap, ◌∙◌, subst, arith}
 use Rattle.std.specs.List.{All, AllPairs}
 use Rattle.std.specs.Option.{option_and_then}
 use Rattle.std.proofs.lemmas.List.Elements.{All-map}
@@ -15,7 +16,7 @@ use Rattle.cred_event.specs.declared.answer.Named.TheVariants as named
 use Rattle.cred_model.specs.State.{State, Task, Broadcast, Numbered, ProcessFlag, numbered, task_of, current_of, cast_in, cast_of}
 use Rattle.cred_model.specs.Ends.{is_beside}
 use Rattle.cred_model.specs.Answers.{refusal}
-use Rattle.cred_model.specs.Casts.{not_busy, with_cast}
+use Rattle.cred_model.specs.Casts.{not_busy, with_cast, WaitsNowhere}
 use Rattle.cred_model.specs.Dumpable.{differs, renewed}
 use Rattle.cred_model.specs.Like.{IsOutcomeLike}
 use Rattle.cred_model.specs.Moves.{in_slot, table_full, not_overridden, with_current, replaced}
@@ -27,7 +28,6 @@ use Rattle.cred_model.proofs.Likes.{does_same}
 use Rattle.cred_sound.specs.Casts.{IsThread}
 use Rattle.cred_sound.specs.Sound.{IsSound}
 use Rattle.cred_sound.proofs.Threads.{beside_is, finds_itself, is_thread}
-use Rattle.cred_cast.specs.Casts.{WaitsNowhere}
 use Rattle.cred_cast.proofs.Conditions.{idle_waits_nowhere}
 use Rattle.cred_procs.specs.Tasks.{those}
 use Rattle.cred_slots.specs.Table.{Table, IsSameBag, IsOnlyUser}

@@ -70,6 +70,7 @@ none_open f None none = refl
 none_open f (Some b) none = cc
 
 -- and where one was found, there is one
-pub some_open : {X : Type 0} (f : Broadcast → X) (found : Option Broadcast) {seen : Option X} → seen ≡ option_map f found → is_some seen ≡ true → is_some found ≡ true
+pub some_open : {X : Type 0} (f : Broadcast → X) (found : Option Broadcast) {seen : Option X} → seen ≡ option_map f found → is_some seen ≡ true
+    → is_some found ≡ true
 some_open f None is there = sym (ap is_some is) ∙ there
 some_open f (Some b) is there = refl

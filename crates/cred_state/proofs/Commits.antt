@@ -1,5 +1,6 @@
 -- What a label prepared is committed.
-use Rattle.std.proofs.Common.{◌≡◌, ◌≢◌, ℕ, ◌<◌, true, false, not, ◌==◌, List, [], ◌∷◌, ◌++◌, append_assoc, find, position, remove, length, slice_get, slice_set, slice_index_or, count_by, Bool, ◌+◌, Option, None, Some, Ok, Err, refl, sym, ap, ◌∙◌, subst, arith}
+use Rattle.std.proofs.Common.{◌≡◌, ◌≢◌, ℕ, ◌<◌, true, false, not, ◌==◌, List, [], ◌∷◌, ◌++◌, append_assoc, find, position, remove, length, slice_get, slice_set}
+use Rattle.std.proofs.Common.{slice_index_or, count_by, Bool, ◌+◌, Option, None, Some, Ok, Err, refl, sym, ap, ◌∙◌, subst, arith}
 use Rattle.std.specs.List.{AllPairs}
 use Rattle.std.specs.Option.{option_and_then, option_map}
 use Rattle.std.proofs.lemmas.Bool.{eq-eqb}
@@ -12,7 +13,7 @@ use Rattle.cred_event.specs.declared.answer.Answer.TheVariants.{Busy, NoTask, No
 use Rattle.cred_event.specs.declared.event.Change.{Change}
 use Rattle.cred_event.specs.declared.event.Change.TheVariants.{Exec}
 use Rattle.cred_model.specs.State.{State, Task, Prepared, Changed, Broadcast, ProcessFlag, task_of, begun_by, prepared_of}
-use Rattle.cred_model.specs.Casts.{not_busy}
+use Rattle.cred_model.specs.Casts.{not_busy, casts_left}
 use Rattle.cred_model.specs.Dumpable.{flags_committed}
 use Rattle.cred_model.specs.Slots.{in_use, kept}
 use Rattle.cred_model.specs.Ends.{survivors, ended}
@@ -24,7 +25,7 @@ use Rattle.cred_slots.specs.Table.{Table, IsSameBag, is_kept_in}
 use Rattle.cred_slots.proofs.Counting.{count-cons}
 use Rattle.cred_sound.proofs.Survivors.{find_goes_on}
 use Rattle.cred_tables.specs.Prepared.{changed_of}
-use Rattle.cred_tables.specs.Kept.{Parts, casts_left, creds_in, state_of, IsKept, SealsKept}
+use Rattle.cred_tables.specs.Kept.{Parts, creds_in, state_of, IsKept, SealsKept}
 use Rattle.cred_tables.proofs.Back.{set_same}
 use Rattle.cred_tables.proofs.Bags.{bag-at, counts_itself}
 use Rattle.cred_state.proofs.Broadcasts.{kept_beside, like_beside}
@@ -109,7 +110,8 @@ module _ (s : State) (label : ℕ) (p : Prepared) (last : Changed) (found : prep
       let at = place-of_found (λ q. q.label == label) s.prepared p found in
       does_same _ _ _ (busy_at at.0 number owner at.1 at.2 lives busy)
 
-  pub commit_overridden : (depth : ℕ) (owner : Task) → task_of s p.task ≡ Some owner → not_busy (begun_by s p.task) ≡ Ok tt → not_overridden owner ≡ Err (Overridden depth)
+  pub commit_overridden : (depth : ℕ) (owner : Task) → task_of s p.task ≡ Some owner → not_busy (begun_by s p.task) ≡ Ok tt
+      → not_overridden owner ≡ Err (Overridden depth)
       → IsOutcomeLike (outcome s (by_commit s label)) (Overridden depth) s
   commit_overridden depth owner lives idle over =
       let at = place-of_found (λ q. q.label == label) s.prepared p found in
@@ -142,7 +144,8 @@ own_goes_on : (change : Change) (owner : Task) → ends_with change owner owner 
 own_goes_on (Exec file) owner = rw (eq-eqb owner.process owner.process refl, eq-eqb owner.number owner.number refl) refl
 own_goes_on change owner = refl
 
-pub goes_on : {change : Change} {tasks after : List Task} {t t' : Table} {task now : ℕ} {ended_tasks : List ℕ} (e : EndsWith change tasks after t t' task now ended_tasks)
+pub goes_on : {change : Change} {tasks after : List Task} {t t' : Table} {task now : ℕ} {ended_tasks : List ℕ}
+    (e : EndsWith change tasks after t t' task now ended_tasks)
     → find (λ u. u.number == task) after ≡ Some e.owner
 goes_on {change = change} {tasks = tasks} {task = task} e =
     ap (λ (ts : List Task). find (λ u. u.number == task) ts) e.on
@@ -236,7 +239,9 @@ module _ {parts : Parts} {after : List Task} {store : List (Option Credential)} 
       fewer = no_more_dropped t' mid (now ∷ []) drops.held drops.deferred
 
       on_kept : IsKept (record end { casts = parts.casts; dumpable = parts.dumpable }) put last_table
-      on_kept = finish_kept on_is place p there own updated last_table number drops.sealed drops.kept fewer refer (slice_get_within store p.slot _ words) seals last.cred
+      on_kept =
+          finish_kept on_is place p there own updated last_table number drops.sealed drops.kept fewer refer (slice_get_within store p.slot _ words) seals
+          last.cred
 
       -- what was prepared is in the words already
       put_same : put ≡ store
@@ -258,7 +263,8 @@ module _ {parts : Parts} {after : List Task} {store : List (Option Credential)} 
       commit_like : IsLike (state_of end put last_table) (made after (state_of on store t'))
       commit_like =
           like_beside
-          (finish_like on_is place p there own updated last_table number drops.sealed drops.kept fewer refer (slice_get_within store p.slot _ words) seals last.cred
+          (finish_like on_is place p there own updated last_table number drops.sealed drops.kept fewer refer (slice_get_within store p.slot _ words) seals
+          last.cred
           (record (made after (state_of on store t')) {
             casts = parts.casts;
             dumpable = parts.dumpable;
@@ -283,7 +289,8 @@ module _ {parts : Parts} {after : List Task} {store : List (Option Credential)} 
             dumpable = flags;
           } in
           subst
-          (λ (words : List (Option Credential)). IsOutcomeLike (outcome before (by_commit before label)) (committed_by change last.gains number p.slot count) (state_of end words last_table))
+          (λ (words : List (Option Credential)). IsOutcomeLike (outcome before (by_commit before label)) (committed_by change last.gains number p.slot count)
+          (state_of end words last_table))
           put_same
           (does_made
           (commit_tests before label place p last e.owner at there changed for e.lives idle allowed

@@ -35,12 +35,14 @@ module _ (s : State) (task child : ℕ) where
     creating_busy (Some other) number busy = rw (lives, own_current, busy) refl
 
     module _ (idle : not_busy (begun_by s task) ≡ Ok tt) where
-      pub creating_exists : (process : Option ℕ) → is_some (task_of s child) ≡ true → outcome s (by_creating s task child process) ≡ (Exists named.Task child, s)
+      pub creating_exists : (process : Option ℕ) → is_some (task_of s child) ≡ true
+          → outcome s (by_creating s task child process) ≡ (Exists named.Task child, s)
       creating_exists None there = rw (lives, own_current, idle, there) refl
       creating_exists (Some number) there = rw (lives, own_current, idle, there) refl
 
       module _ (new : task_of s child ≡ None) where
-        pub creating_used : (number : ℕ) → has_process s.tasks number ≡ true → outcome s (by_creating s task child (Some number)) ≡ (Exists named.Process number, s)
+        pub creating_used : (number : ℕ) → has_process s.tasks number ≡ true
+            → outcome s (by_creating s task child (Some number)) ≡ (Exists named.Process number, s)
         creating_used number there = rw (lives, own_current, idle, new, there) refl
 
         pub creating_overridden : (process : Option ℕ) (depth : ℕ) → IsUnusedProcess s process → not_overridden owner ≡ Err (Overridden depth)

@@ -1,5 +1,6 @@
 -- An event is decided on what is lent for it in the same call.
-use Rattle.std.proofs.Common.{◌≡◌, ◌≢◌, ◌==◌, ◌⊎◌, inl, inr, ℕ, List, [], ◌∷◌, ◌++◌, map, slice_get, slice_set, Bool, Option, None, Some, Result, Ok, Err, refl, sym, ap, ◌∙◌, subst}
+use Rattle.std.proofs.Common.{◌≡◌, ◌≢◌, ◌==◌, ◌⊎◌, inl, inr, ℕ, List, [], ◌∷◌, ◌++◌, map, slice_get, slice_set, Bool, Option, None, Some, Result, Ok, Err, refl}
+use Rattle.std.proofs.Common.{sym, ap, ◌∙◌, subst}
 use Rattle.std.specs.List.{All}
 use Rattle.std.specs.Prelude.{Contains}
 use Rattle.std.specs.Option.{IfSome, option_and_then, option_map}
@@ -140,7 +141,8 @@ module _ (before : Standing) (base : Held) (writer : Written) (ch : Change) (mad
       let alone = kept_alone before.state were.sound label p prepared before.words.out were.out home in
       let at = place-of_found (λ (q : Prepared). q.label == label) before.state.prepared p prepared in
       subst (λ n. slice_get before.places n ≡ Some (was_put p)) slot
-      (All-at (λ (q : Prepared). IsAlone before.words.out q.slot → slice_get before.places q.slot ≡ Some (was_put q)) before.state.prepared at.0 p at.2 were.put alone)
+      (All-at (λ (q : Prepared). IsAlone before.words.out q.slot → slice_get before.places q.slot ≡ Some (was_put q)) before.state.prepared at.0 p at.2 were.put
+      alone)
 
   earlier_was : earlier_of before.state label ≡ was_put p
   earlier_was = ap (λ (o : Option Prepared). option_and_then (λ (q : Prepared). option_map (λ (last : Changed). last.cred) q.changed) o) prepared

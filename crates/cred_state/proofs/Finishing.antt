@@ -1,6 +1,7 @@
 -- A prepared label is done: its credential is sealed in the slot that was kept for it, and its base
 -- given up. So a commit ends, and an override by what was prepared for access(2).
-use Rattle.std.proofs.Common.{◌≡◌, ◌≢◌, ℕ, ◌<◌, List, [], ◌∷◌, ◌++◌, remove, length, slice_get, slice_set, slice_index_or, false, Option, Some, ap, ◌∙◌, subst, arith}
+use Rattle.std.proofs.Common.{◌≡◌, ◌≢◌, ℕ, ◌<◌, List, [], ◌∷◌, ◌++◌, remove, length, slice_get, slice_set, slice_index_or, false, Option, Some, ap, ◌∙◌, subst}
+use Rattle.std.proofs.Common.{arith}
 use Rattle.std.specs.List.{AllPairs}
 use Rattle.cred_record.specs.Credential.{Credential}
 use Rattle.cred_model.specs.State.{State, Task, Prepared}

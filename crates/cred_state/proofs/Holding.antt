@@ -1,12 +1,13 @@
--- A label takes hold of a credential, and lets go.
-use Rattle.std.proofs.Common.{IfOk, Result, Ok, Err, ◌≡◌, ℕ, ◌<◌, ◌==◌, List, [], ◌∷◌, ◌++◌, find, position, remove, count_by, slice_get, Option, Some, ap, ◌∙◌, refl}
+-- A label takes hold of a credential, and drops it.
+use Rattle.std.proofs.Common.{IfOk, Result, Ok, Err, ◌≡◌, ℕ, ◌<◌, ◌==◌, List, [], ◌∷◌, ◌++◌, find, position, remove, count_by, slice_get, Option, Some, ap, ◌∙◌}
+use Rattle.std.proofs.Common.{refl}
 use Rattle.cred_record.specs.Credential.{Credential}
 use Rattle.cred_event.specs.declared.answer.Answer.{Answer}
 use Rattle.cred_event.specs.declared.answer.Answer.TheVariants.{Done}
-use Rattle.cred_model.specs.State.{State, Hold, Numbered}
+use Rattle.cred_model.specs.State.{State, Hold, Numbered, numbered_in}
 use Rattle.cred_model.specs.Step.{by_release, take_hold, outcome}
 use Rattle.cred_slots.specs.Table.{Table}
-use Rattle.cred_tables.specs.Kept.{Parts, numbered_in, state_of, IsKept}
+use Rattle.cred_tables.specs.Kept.{Parts, state_of, IsKept}
 use Rattle.cred_tables.proofs.Bags.{bag-has, bag-at}
 use Rattle.cred_model.proofs.Places.{place-of_found}
 use Rattle.cred_tables.proofs.Sealing.{Drops, keeps_same, kept_less, over_later}

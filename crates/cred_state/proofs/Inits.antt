@@ -1,5 +1,6 @@
 -- A first task is created.
-use Rattle.std.proofs.Common.{◌≡◌, ℕ, ◌<◌, Bool, true, false, not, ◌==◌, nat_lt, List, [], ◌∷◌, ◌++◌, find, length, slice_set, count_by, Option, None, Some, Ok, Err, is_some, refl, sym, ap, ◌∙◌, subst, arith}
+use Rattle.std.proofs.Common.{◌≡◌, ℕ, ◌<◌, Bool, true, false, not, ◌==◌, nat_lt, List, [], ◌∷◌, ◌++◌, find, length, slice_set, count_by, Option, None, Some, Ok}
+use Rattle.std.proofs.Common.{Err, is_some, refl, sym, ap, ◌∙◌, subst, arith}
 use Rattle.std.proofs.lemmas.Bool.Decides.{nat_tests}
 use Rattle.cred_ids.specs.Limits.{SLOTS}
 use Rattle.cred_record.specs.Credential.{Credential, first_credential}
@@ -48,7 +49,8 @@ init_does task process user group ns root s slot =
 pub few_tasks : (n : ℕ) → n < 64 → nat_lt n 64 ≡ true
 few_tasks n few = grind (arith, nat_tests)
 
-init_tests : (s : State) (task process user group ns root : ℕ) → not_busy (cast_in s process) ≡ Ok tt → find (λ t. t.number == task) s.tasks ≡ None → length s.tasks < 64
+init_tests : (s : State) (task process user group ns root : ℕ) → not_busy (cast_in s process) ≡ Ok tt → find (λ t. t.number == task) s.tasks ≡ None
+    → length s.tasks < 64
     → outcome s (by_init s task process user group ns root) ≡ in_slot s table_full (init_does task process user group ns root)
 unfolding init_does
 init_tests s task process user group ns root idle new few = rw (idle, new, few_tasks (length s.tasks) few) refl
@@ -63,7 +65,8 @@ module _ (s : State) (task process user group ns root : ℕ) where
     pub init_exists : is_some (task_of s task) ≡ true → outcome s (by_init s task process user group ns root) ≡ (Exists named.Task task, s)
     init_exists there = rw (idle, there) refl
 
-    pub init_many : task_of s task ≡ None → nat_lt (length s.tasks) 64 ≡ false → outcome s (by_init s task process user group ns root) ≡ (TooMany counted.Tasks, s)
+    pub init_many : task_of s task ≡ None → nat_lt (length s.tasks) 64 ≡ false
+        → outcome s (by_init s task process user group ns root) ≡ (TooMany counted.Tasks, s)
     init_many new many = rw (idle, new, many) refl
 
 pub many_by_test : (n : ℕ) (test : Bool) → test ≡ not (nat_lt n 64) → test ≡ true → nat_lt n 64 ≡ false

@@ -37,12 +37,14 @@ module _ {parts : Parts} {store : List (Option Credential)} {t : Table} (out : L
       All-at (λ q. IsAlone out q.slot → slice_get store q.slot ≡ Some (was_put q)) parts.prepared place p there inv.1 alone
       ∙ ap (λ (o : Option Changed). Some (option_map (λ (x : Changed). x.cred) o)) changed
 
-  pub committed_words : (label place : ℕ) (p : Prepared) → position (λ q. q.label == label) parts.prepared ≡ Some place → slice_get parts.prepared place ≡ Some p
+  pub committed_words : (label place : ℕ) (p : Prepared) → position (λ q. q.label == label) parts.prepared ≡ Some place
+      → slice_get parts.prepared place ≡ Some p
       → (last : Changed) → p.changed ≡ Some last → IsSound s → AreOut s out → AreHome (Commit label) out → slice_get store p.slot ≡ Some (Some last.cred)
   committed_words label place p at there last changed sound are home =
       words_of label place p at there last changed sound are (home_is (Commit label) label out home (Contains-push [] label))
 
-  pub overridden_words : (task label place : ℕ) (p : Prepared) → position (λ q. q.label == label) parts.prepared ≡ Some place → slice_get parts.prepared place ≡ Some p
+  pub overridden_words : (task label place : ℕ) (p : Prepared) → position (λ q. q.label == label) parts.prepared ≡ Some place
+      → slice_get parts.prepared place ≡ Some p
       → (last : Changed) → p.changed ≡ Some last → IsSound s → AreOut s out → AreHome (Override task label) out → slice_get store p.slot ≡ Some (Some last.cred)
   overridden_words task label place p at there last changed sound are home =
       words_of label place p at there last changed sound are (home_is (Override task label) label out home (Contains-push [] label))

@@ -1,5 +1,6 @@
 -- A label begins to prepare, changes what it prepares, and gives it up.
-use Rattle.std.proofs.Common.{◌≡◌, ◌≢◌, ℕ, ◌<◌, ◌≤◌, Bool, true, false, ◌==◌, ◌||◌, nat_lt, List, [], ◌∷◌, ◌++◌, find, map, position, remove, suc, take, drop, count_by, slice_get, slice_set, slice_index_or, length, Option, None, Some, Ok, Err, is_some, refl, sym, ap, ◌∙◌, subst, arith}
+use Rattle.std.proofs.Common.{◌≡◌, ◌≢◌, ℕ, ◌<◌, ◌≤◌, Bool, true, false, ◌==◌, ◌||◌, nat_lt, List, [], ◌∷◌, ◌++◌, find, map, position, remove, suc, take, drop}
+use Rattle.std.proofs.Common.{count_by, slice_get, slice_set, slice_index_or, length, Option, None, Some, Ok, Err, is_some, refl, sym, ap, ◌∙◌, subst, arith}
 use Rattle.std.specs.List.{AllPairs}
 use Rattle.std.specs.Option.{option_map}
 use Rattle.std.proofs.lemmas.Bool.Decides.{nat_tests}
@@ -92,7 +93,8 @@ module _ (s : State) (label task hold : ℕ) where
       prepare_no_hold none = rw (lives, idle, none) refl
 
       module _ (base : Hold) (has : hold_of s hold ≡ Some base) where
-        pub prepare_exists : (is_some (hold_of s label) || is_some (prepared_of s label)) ≡ true → outcome s (by_prepare s label task hold) ≡ (Exists named.Label label, s)
+        pub prepare_exists : (is_some (hold_of s label) || is_some (prepared_of s label)) ≡ true
+            → outcome s (by_prepare s label task hold) ≡ (Exists named.Label label, s)
         prepare_exists there = by (hold_of s label) refl there
           where
             by : (held : Option Hold) → hold_of s label ≡ held → (is_some held || is_some (prepared_of s label)) ≡ true
@@ -134,7 +136,8 @@ module _ {parts : Parts} {store : List (Option Credential)} {t : Table} (is : Is
     -- whatever is in the words of its slot
     prepare_words : 0 < count_by (λ m. m == p.base) t.held → IsKept begun store after
     prepare_words has =
-        let slots : kept (record s { prepared = parts.prepared ++ p ∷ [] }) ≡ kept s ++ p.slot ∷ [] = map-append (λ (q : Prepared). q.slot) parts.prepared (p ∷ []) in
+        let slots : kept (record s { prepared = parts.prepared ++ p ∷ [] }) ≡ kept s ++ p.slot ∷ [] =
+        map-append (λ (q : Prepared). q.slot) parts.prepared (p ∷ []) in
         record {
           counted = record {
             counts = bag-more is.counted.counts claim.held (in_use-label s p);
@@ -167,7 +170,8 @@ module _ {parts : Parts} {store : List (Option Credential)} {t : Table} (is : Is
   pub prepare_done : (after : Table) (label task hold slot number : ℕ) (may : MayPrepare s label task hold number) → Claims t after may.base.number slot
       → 0 < count_by (λ m. m == may.base.number) t.held
       → IsOutcomeLike (outcome s (by_prepare s label task hold)) (Kept slot)
-      (state_of (record parts { prepared = parts.prepared ++ record { label = label; task = task; base = may.base.number; slot = slot; changed = None } ∷ [] }) (slice_set store slot None) after)
+      (state_of (record parts { prepared = parts.prepared ++ record { label = label; task = task; base = may.base.number; slot = slot; changed = None } ∷ [] })
+      (slice_set store slot None) after)
   unfolding prepare_does
   prepare_done after label task hold slot number may claim has =
       let p : Prepared = record { label = label; task = task; base = may.base.number; slot = slot; changed = None } in
@@ -230,7 +234,8 @@ pub present : (number : ℕ) (tasks : List Task) (test : Bool) → test ≡ is_s
     → (u : Task) × (find (λ v. v.number == number) tasks ≡ Some u)
 present number tasks test tests alive = by (find (λ u. u.number == number) tasks) refl tests
   where
-    by : (found : Option Task) → find (λ u. u.number == number) tasks ≡ found → test ≡ is_some found → (u : Task) × (find (λ v. v.number == number) tasks ≡ Some u)
+    by : (found : Option Task) → find (λ u. u.number == number) tasks ≡ found → test ≡ is_some found
+        → (u : Task) × (find (λ v. v.number == number) tasks ≡ Some u)
     by None is tests = cc
     by (Some u) is tests = (u, is)
 

@@ -27,7 +27,9 @@ module _ (s : State) (sound : IsSound s) where
       by None at none = refl
       by (Some h) at none =
           absurd
-          (there h.number (found (λ (x : Hold). x.number < length (map (λ (y : SealedCred). y.slot) s.creds)) (λ (x : Hold). x.label == label) s.holds h at each_sealed.holds).0 none)
+          (there h.number
+          (found (λ (x : Hold). x.number < length (map (λ (y : SealedCred). y.slot) s.creds)) (λ (x : Hold). x.label == label) s.holds h at each_sealed.holds).0
+          none)
 
   pub no_base : (label : ℕ) → option_and_then (λ (p : Prepared). numbered s.creds p.base) (prepared_of s label) ≡ None → prepared_of s label ≡ None
   no_base label none = by (prepared_of s label) refl none
@@ -36,7 +38,10 @@ module _ (s : State) (sound : IsSound s) where
       by None at none = refl
       by (Some p) at none =
           absurd
-          (there p.base (found (λ (x : Prepared). x.base < length (map (λ (y : SealedCred). y.slot) s.creds)) (λ (x : Prepared). x.label == label) s.prepared p at each_sealed.bases).0 none)
+          (there p.base
+          (found (λ (x : Prepared). x.base < length (map (λ (y : SealedCred). y.slot) s.creds)) (λ (x : Prepared). x.label == label) s.prepared
+          p at each_sealed.bases).0
+          none)
 
 -- where something is found by the label, it is there
 pub some_hold : (s : State) (label : ℕ) (c : Numbered) → held_by s label ≡ Some c → is_some (hold_of s label) ≡ true

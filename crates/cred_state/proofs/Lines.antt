@@ -1,10 +1,13 @@
 -- Which labels the events of a line name, and which of them wait for a decision.
-use Rattle.std.proofs.Common.{◌≡◌, ℕ, zero, suc, ◌<◌, length, get_or, Bool, true, false, List, [], ◌∷◌, Contains, Option, None, Some, ◌⊎◌, inl, inr, refl, sym, ◌∙◌, subst, arith}
+use Rattle.std.proofs.Common.{◌≡◌, ℕ, zero, suc, ◌<◌, length, get_or, Bool, true, false, List, [], ◌∷◌, Contains, Option, None, Some, ◌⊎◌, inl, inr, refl, sym}
+use Rattle.std.proofs.Common.{◌∙◌, subst, arith}
 use Rattle.std.specs.List.{All}
 use Rattle.std.proofs.lemmas.Option.{same_Some}
 use Rattle.std.proofs.lemmas.List.Elements.{All-contains, All-cons, All-nil}
 use Rattle.cred_event.specs.declared.content.Stage.{Stage}
-use Rattle.cred_event.specs.declared.content.Stage.TheVariants.{First, Acting, Asking, Opening, TakingTarget, Signalling, Tracing, ReleasingTarget, Preparing, Altering, Committing, Aborting, Overriding, TakingAccess, ReleasingAccess, Reverting, Releasing, Retrying, Calling}
+use Rattle.cred_event.specs.declared.content.Stage.TheVariants.{First, Acting, Asking, Opening, TakingTarget, Signalling, Tracing, ReleasingTarget, Preparing}
+use Rattle.cred_event.specs.declared.content.Stage.TheVariants.{Altering, Committing, Aborting, Overriding, TakingAccess, ReleasingAccess, Reverting, Releasing}
+use Rattle.cred_event.specs.declared.content.Stage.TheVariants.{Retrying, Calling}
 use Rattle.cred_event.specs.declared.event.Event.{Event}
 use Rattle.cred_event.specs.declared.event.Event.TheVariants.{Ask, Alter, OpenFile}
 use Rattle.cred_event.specs.declared.event.Event.TheVariants as event
@@ -222,7 +225,8 @@ labels_apart line label new access =
     at_first x (suc k) d lt = absurd (omega arith)
 
 -- two events of one line that wait and share a label are one
-pub same_event : (line : ℕ) (content : Content) (stage other : Stage) (a b : Event) → event_in line content stage ≡ Some a → event_in line content other ≡ Some b
+pub same_event : (line : ℕ) (content : Content) (stage other : Stage) (a b : Event) → event_in line content stage ≡ Some a
+    → event_in line content other ≡ Some b
     → may_need_tokens a ≡ true → may_need_tokens b ≡ true → (label : ℕ) → Contains (event_labels a) label → Contains (event_labels b) label → a ≡ b
 same_event line content stage other a b one two waits wait label here there =
     by content (is_waiting line content stage a one waits) (is_waiting line content other b two wait)

@@ -1,5 +1,6 @@
 -- A task acts with another credential than its current one, and goes back.
-use Rattle.std.proofs.Common.{◌≡◌, ◌≢◌, ℕ, ◌<◌, Bool, true, false, cond, ◌&&◌, ◌==◌, nat_lt, List, [], ◌∷◌, ◌++◌, drop, find, position, remove, length, slice_get, slice_set, count_by, is_some, Option, None, Some, refl, sym, ap, ◌∙◌, subst, arith}
+use Rattle.std.proofs.Common.{◌≡◌, ◌≢◌, ℕ, ◌<◌, Bool, true, false, cond, ◌&&◌, ◌==◌, nat_lt, List, [], ◌∷◌, ◌++◌, drop, find, position, remove, length}
+use Rattle.std.proofs.Common.{slice_get, slice_set, count_by, is_some, Option, None, Some, refl, sym, ap, ◌∙◌, subst, arith}
 use Rattle.std.specs.List.{AllPairs}
 use Rattle.std.specs.Option.{IsSome, option_and_then, option_map_or}
 use Rattle.cred_ids.specs.Limits.{DEPTH}
@@ -124,7 +125,8 @@ chosen : (test : Bool) (last : Changed) → is_some (cond test (Some last) None)
 chosen true last some = refl
 chosen false last some = cc
 
-changed_some : (task : ℕ) (p : Prepared) (changed : Option Changed) → p.changed ≡ changed → is_some (for_access task p) ≡ true → (last : Changed) × (p.changed ≡ Some last)
+changed_some : (task : ℕ) (p : Prepared) (changed : Option Changed) → p.changed ≡ changed → is_some (for_access task p) ≡ true
+    → (last : Changed) × (p.changed ≡ Some last)
 changed_some task p None is some =
     let none : for_access task p ≡ None = ap (option_and_then (λ (last : Changed). cond (p.task == task && is_access last.change) (Some last) None)) is in
     let false_is : is_some (for_access task p) ≡ false = ap is_some none in
@@ -224,7 +226,8 @@ module _ {parts : Parts} {store : List (Option Credential)} {t : Table} (is : Is
           let deferred = ap (λ (x : Table). x.deferred) made ∙ ap (λ (x : Table). x.deferred) spared in
           does_same _ _ _
           (held_tests s task label owner lent_to.lives c has lent_to.few
-          ∙ ap (λ (n : ℕ). (Sealed c.number c.slot, record s { tasks = with_overrides parts.tasks n (c.number ∷ owner.overrides) })) (owner_number s task owner lent_to.lives)
+          ∙ ap (λ (n : ℕ). (Sealed c.number c.slot, record s { tasks = with_overrides parts.tasks n (c.number ∷ owner.overrides) }))
+          (owner_number s task owner lent_to.lives)
           ∙ ap (λ (n : ℕ). (Sealed n c.slot, record s { tasks = with_overrides parts.tasks task (n ∷ owner.overrides) })) same
           ∙ ap (λ (ts : List Task). (Sealed number c.slot, record s { tasks = ts })) (sym lent_to.gives)
           ∙ ap (λ (r : State). (Sealed number c.slot, r)) (over_later (record parts { tasks = tasks }) store t after sealed deferred))
@@ -248,7 +251,8 @@ module _ {parts : Parts} {store : List (Option Credential)} {t : Table} (is : Is
       refer = record {
         counts = λ test.
             let lent_bag = in_use-lent s task lent_to.owner distinct lent_to.lives next in
-            let lent_now = ap (λ (ts : List Task). count_by test (in_use (record s { tasks = ts }))) lent_to.gives ∙ lent_bag.counts test ∙ count-cons test next (in_use s) in
+            let lent_now =
+            ap (λ (ts : List Task). count_by test (in_use (record s { tasks = ts }))) lent_to.gives ∙ lent_bag.counts test ∙ count-cons test next (in_use s) in
             let more = ap (λ (x : Table). count_by test (number ∷ x.held)) spared ∙ count-cons test number t.held in
             let one : one_if (test next) ≡ one_if (test number) = ap (λ (n : ℕ). one_if (test n)) same_number in
             omega (arith, lent_now, more, one, is.counted.counts.counts test);
@@ -283,7 +287,8 @@ module _ {parts : Parts} {store : List (Option Credential)} {t : Table} (is : Is
           let named = owner_number s task owner lent_to.lives in
           let counted : length (creds_in store t.sealed) ≡ number
           = length-creds_in store t.sealed ∙ ap (λ (x : Table). length x.sealed) (sym spared) ∙ sym seals.counted in
-          subst (λ (words : List (Option Credential)). IsOutcomeLike (outcome s (by_override s task label)) (Sealed number p.slot) (state_of end words after)) put_same
+          subst (λ (words : List (Option Credential)). IsOutcomeLike (outcome s (by_override s task label)) (Sealed number p.slot) (state_of end words after))
+          put_same
           (does_made
           (prepared_tests s task label owner lent_to.lives none place p last at there (ap (λ (n : ℕ). for_access n p) named ∙ for) lent_to.few
           ∙ ap (λ (n : ℕ). (Sealed (length s.creds) p.slot, made (with_overrides parts.tasks n (length s.creds ∷ owner.overrides)))) named

@@ -1,18 +1,19 @@
 -- A credential that is found, and that something refers to, stands in the words of its slot.
-use Rattle.std.proofs.Common.{◌≡◌, ◌≢◌, ℕ, ◌<◌, ◌==◌, Bool, true, false, zero, suc, List, [], ◌∷◌, Option, None, Some, slice_get, get_or, refl, sym, ap, ◌∙◌, subst, arith}
+use Rattle.std.proofs.Common.{◌≡◌, ◌≢◌, ℕ, ◌<◌, ◌==◌, Bool, true, false, zero, suc, List, [], ◌∷◌, Option, None, Some, slice_get, get_or, refl, sym, ap, ◌∙◌}
+use Rattle.std.proofs.Common.{subst, arith}
 use Rattle.std.specs.List.{count_by}
 use Rattle.std.specs.Option.{IsSome, option_map, option_map_or, option_and_then}
 use Rattle.std.proofs.lemmas.Bool.Decides.{nat_tests}
 use Rattle.std.proofs.lemmas.Option.{get_or_from_slice_get, same_Some, slice_get_within}
 use Rattle.cred_record.specs.Credential.{Credential}
-use Rattle.cred_model.specs.State.{State, Numbered, SealedCred, numbered}
+use Rattle.cred_model.specs.State.{State, Numbered, SealedCred, numbered, no_credential}
 use Rattle.cred_model.specs.Slots.{in_use}
 use Rattle.cred_model.proofs.Lists.{slice_get-left}
 use Rattle.cred_model.proofs.Numbers.{numbered_is}
 use Rattle.cred_hold.specs.Tokens.{IsSealed}
 use Rattle.cred_slots.specs.Table.{Table, free_in, references_to, is_sealed_in}
 use Rattle.cred_slots.proofs.Counting.{count-append}
-use Rattle.cred_tables.specs.Kept.{Parts, stored_at, creds_in, cred_under, seen_in, no_credential, state_of, AreInPlace, IsInUse, IsKept, Seals}
+use Rattle.cred_tables.specs.Kept.{Parts, stored_at, creds_in, cred_under, seen_in, state_of, AreInPlace, IsInUse, IsKept, Seals}
 use Rattle.cred_tables.specs.declared.table.Numbered as table
 use Rattle.cred_tables.proofs.Sealing.{used_is_referred}
 
@@ -95,7 +96,8 @@ itself : (n : ℕ) → (n == n) ≡ true
 itself n = grind (arith, nat_tests)
 
 -- The slot that the next number was sealed in is none in which a number stands that is referred to.
-pub stands_apart : {before after : Table} {number slot : ℕ} → Seals before after number slot → (n own : ℕ) → slice_get before.sealed n ≡ Some own → 0 < count_by (λ m. m == n) after.held
+pub stands_apart : {before after : Table} {number slot : ℕ} → Seals before after number slot → (n own : ℕ) → slice_get before.sealed n ≡ Some own
+    → 0 < count_by (λ m. m == n) after.held
     → own ≢ slot
 stands_apart {before = before} {after = after} {number = number} {slot = slot} seals n own is many same =
     let small = slice_get_within before.sealed n own is in

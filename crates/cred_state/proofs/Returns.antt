@@ -1,5 +1,6 @@
 -- What was lent comes back.
-use Rattle.std.proofs.Common.{◌≡◌, ◌≢◌, ◌<◌, ◌==◌, ◌⊎◌, inl, inr, ℕ, Bool, true, false, cond, List, [], ◌∷◌, ◌++◌, length, slice_get, slice_set, get_or, Option, None, Some, is_some, refl, sym, ap, ◌∙◌, subst, arith}
+use Rattle.std.proofs.Common.{◌≡◌, ◌≢◌, ◌<◌, ◌==◌, ◌⊎◌, inl, inr, ℕ, Bool, true, false, cond, List, [], ◌∷◌, ◌++◌, length, slice_get, slice_set, get_or, Option}
+use Rattle.std.proofs.Common.{None, Some, is_some, refl, sym, ap, ◌∙◌, subst, arith}
 use Rattle.std.specs.List.{All}
 use Rattle.std.specs.Prelude.{Contains, IsSome}
 use Rattle.std.specs.Option.{IfSome, option_map, option_and_then}
@@ -91,7 +92,8 @@ writer_is s out label slot are has = by (token_is s (loan label slot None) (out_
     by (inl h) = let gone = ap (λ (x : Loan). x.held) h.is in cc
     by (inr q) = of q.is
       where
-        of : (loan label q.preparation.slot None ≡ loan label slot None) ⊎ (loan label q.base.slot (Some q.base.cred) ≡ loan label slot None) → IsWritten s label slot
+        of : (loan label q.preparation.slot None ≡ loan label slot None) ⊎ (loan label q.base.slot (Some q.base.cred) ≡ loan label slot None)
+            → IsWritten s label slot
         of (inl at) = record { preparation = q.preparation; base = q.base; prepared = q.prepared; sealed = q.sealed; is = ap (λ (x : Loan). x.slot) at }
         of (inr at) = let gone = ap (λ (x : Loan). x.held) at in cc
 
@@ -140,7 +142,8 @@ module _ {parts : Parts} {store : List (Option Credential)} {t : Table} {out : L
 
     module _ (again : value ≡ earlier_of s label) where
       earlier_is : value ≡ was_put p
-      earlier_is = again ∙ ap (λ (o : Option Prepared). option_and_then (λ (q : Prepared). option_map (λ (last : Changed). last.cred) q.changed) o) written.prepared
+      earlier_is =
+          again ∙ ap (λ (o : Option Prepared). option_and_then (λ (q : Prepared). option_map (λ (last : Changed). last.cred) q.changed) o) written.prepared
 
       pub earlier_kept : IsKept parts (slice_set store slot value) t × ArePut parts.prepared new (slice_set store slot value)
       earlier_kept = (
@@ -175,7 +178,9 @@ module _ {parts : Parts} {store : List (Option Credential)} {t : Table} {out : L
             (λ k d within own alone.
             not_alone out (loan label slot None) has
             (subst (λ (n : ℕ). IsAlone out n)
-            (ap (λ (r : Prepared). r.slot) (one_label s sound label p written.prepared k d within (own ∙ sym (named s sound label p written.prepared))) ∙ written.is) alone))
+            (ap (λ (r : Prepared). r.slot) (one_label s sound label p written.prepared k d within (own ∙ sym (named s sound label p written.prepared)))
+            ∙ written.is)
+            alone))
             inv.1),
       )
 

@@ -4,7 +4,8 @@ use Rattle.std.specs.List.{All}
 use Rattle.std.specs.Option.{option_and_then}
 use Rattle.std.proofs.lemmas.List.Elements.{All-append, All-nil}
 use Rattle.cred_event.specs.declared.event.Side.{Side}
-use Rattle.cred_model.specs.State.{State, Task, OpenFile, Hold, Prepared, Numbered, numbered, number_on, prepared_of, current_of, credential_of, opener_of, held_by}
+use Rattle.cred_model.specs.State.{State, Task, OpenFile, Hold, Prepared, Numbered, numbered, number_on, prepared_of, current_of, credential_of, opener_of}
+use Rattle.cred_model.specs.State.{held_by}
 use Rattle.cred_model.specs.Slots.{in_use, swept}
 use Rattle.cred_model.proofs.Lists.{found}
 use Rattle.cred_model.proofs.Numbers.{numbered_is}

@@ -1,5 +1,6 @@
 -- A label that an event doesn't end keeps what it refers to, whatever else the event does, and so what is lent under it stays the label's.
-use Rattle.std.proofs.Common.{if◌then◌else◌, ◌≡◌, ℕ, ◌<◌, ◌==◌, ◌&&◌, Bool, List, [], ◌∷◌, ◌++◌, find, length, map, get_or, is_some, Contains, Option, Some, None, refl, sym, ap, ◌∙◌, subst, ◌⊎◌, inl, inr, true, false, arith}
+use Rattle.std.proofs.Common.{if◌then◌else◌, ◌≡◌, ℕ, ◌<◌, ◌==◌, ◌&&◌, Bool, List, [], ◌∷◌, ◌++◌, find, length, map, get_or, is_some, Contains, Option, Some}
+use Rattle.std.proofs.Common.{None, refl, sym, ap, ◌∙◌, subst, ◌⊎◌, inl, inr, true, false, arith}
 use Rattle.std.specs.List.{All}
 use Rattle.std.specs.Option.{option_and_then, option_map, option_or}
 use Rattle.std.proofs.lemmas.List.{length-map}
@@ -16,7 +17,8 @@ use Rattle.cred_model.proofs.Numbers.{numbered_stays}
 use Rattle.cred_model.proofs.Referred.{EachRef, each_ref}
 use Rattle.cred_names.specs.Labels.{event_labels}
 use Rattle.cred_sound.specs.Ledger.{SealsOf}
-use Rattle.cred_sound.proofs.Parts.{Stays, Adds, Removes, SamePrepared, Prepares, Alters, Ends, SameCreds, Seals, HoldsChange, PreparedChange, CredsChange, Changes, sealed_cred}
+use Rattle.cred_sound.proofs.Parts.{Stays, Adds, Removes, SamePrepared, Prepares, Alters, Ends, SameCreds, Seals, HoldsChange, PreparedChange, CredsChange}
+use Rattle.cred_sound.proofs.Parts.{Changes, sealed_cred}
 use Rattle.cred_sound.proofs.Events.{changes}
 use Rattle.cred_sound.specs.Sound.{IsSound}
 use Rattle.cred_words.specs.Lists.{Has}
@@ -24,7 +26,7 @@ use Rattle.cred_hold.specs.Tokens.{Loan, loan}
 use Rattle.cred_tables.specs.Out.{AreHome, AreOut, hold_token, kept_tokens, tokens_in, needs_tokens}
 use Rattle.cred_tables.proofs.Outs.{IsToken, IsHeld, IsPrepared, token_is, hold_token_is, kept_tokens_are, has_first, has_last}
 
--- the event lets go of what the label has
+-- the event drops what the label has
 pub data EndsLabel (event : Event) (label : ℕ) : Type 0 where
   LetsGo : event ≡ Release label → EndsLabel event label
   SealsIt : SealsOf event label → EndsLabel event label
@@ -65,7 +67,8 @@ module _ (script : Script) (s : State) (line : ℕ) (event : Event) (label : ℕ
     where
       by : HoldsChange s event made.left after → hold_of after label ≡ Some h
       by (Stays same) = ap (λ hs. find (λ (h : Hold). h.label == label) hs) same ∙ is
-      by (Adds x same new is_new) = ap (λ hs. find (λ (h : Hold). h.label == label) hs) same ∙ found-first (λ (h : Hold). h.label == label) s.holds (x ∷ []) h is
+      by (Adds x same new is_new) =
+          ap (λ hs. find (λ (h : Hold). h.label == label) hs) same ∙ found-first (λ (h : Hold). h.label == label) s.holds (x ∷ []) h is
       by (Removes number place x gone same at there) =
           ap (λ hs. find (λ (h : Hold). h.label == label) hs) same
           ∙ find-remove_other (λ (h : Hold). h.label) s.holds label number place x at there (λ e. other (LetsGo (gone ∙ ap (λ n. Release n) e)))
@@ -84,8 +87,12 @@ module _ (script : Script) (s : State) (line : ℕ) (event : Event) (label : ℕ
 
       by : PreparedChange script s event made.left after → (q : Prepared) × (prepared_of after label ≡ Some q) × IsSameBut p q
       by (SamePrepared same) = same_as (ap (λ ps. find (λ (p : Prepared). p.label == label) ps) same)
-      by (Prepares x same un new none old free) =
-          (p, ap (λ ps. find (λ (p : Prepared). p.label == label) ps) same ∙ found-first (λ (p : Prepared). p.label == label) s.prepared (x ∷ []) p is, record { base = refl; slot = refl })
+      by (Prepares x same un new none old free) = (
+        p,
+        ap (λ ps. find (λ (p : Prepared). p.label == label) ps) same
+            ∙ found-first (λ (p : Prepared). p.label == label) s.prepared (x ∷ []) p is,
+        record { base = refl; slot = refl },
+      )
       by (Alters name to x base answer same there sealed rule acts) = (
         relabelled name to p,
         ap (λ ps. find (λ (p : Prepared). p.label == label) ps) same
@@ -181,13 +188,16 @@ module _ (s : State) (sound : IsSound s) (label : ℕ) where
 
   pub held_sealed : (h : Hold) → hold_of s label ≡ Some h → (c : Numbered) × (held_by s label ≡ Some c)
   held_sealed h is =
-      let lt = (found (λ (x : Hold). x.number < length (map (λ (c : SealedCred). c.slot) s.creds)) (λ (x : Hold). x.label == label) s.holds h is sealed_each.holds).0 in
+      let lt =
+      (found (λ (x : Hold). x.number < length (map (λ (c : SealedCred). c.slot) s.creds)) (λ (x : Hold). x.label == label) s.holds h is sealed_each.holds).0 in
       let c = at_number h.number lt in
       (c.0, ap (λ (o : Option Hold). option_and_then (λ (x : Hold). numbered s.creds x.number) o) is ∙ c.1)
 
   pub base_sealed : (p : Prepared) → prepared_of s label ≡ Some p → (c : Numbered) × (numbered s.creds p.base ≡ Some c)
   base_sealed p is =
-      at_number p.base (found (λ (x : Prepared). x.base < length (map (λ (c : SealedCred). c.slot) s.creds)) (λ (x : Prepared). x.label == label) s.prepared p is sealed_each.bases).0
+      at_number p.base
+      (found (λ (x : Prepared). x.base < length (map (λ (c : SealedCred). c.slot) s.creds)) (λ (x : Prepared). x.label == label) s.prepared p is
+      sealed_each.bases).0
 
 both_true : (a b : Bool) → (a && b) ≡ true → (a ≡ true) × (b ≡ true)
 both_true true b is = (refl, is)

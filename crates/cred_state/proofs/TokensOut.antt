@@ -1,4 +1,4 @@
--- A state of which tokens are lent, and decisions that hang on less than they are given.
+-- A state of which tokens are lent, and decisions that depend on less than they are given.
 use Rattle.std.proofs.Common.{◌≡◌, ℕ, ◌||◌, Bool, true, false, List, [], ◌∷◌, Option, None, Some, refl, sym, ap, ◌∙◌, subst}
 use Rattle.std.specs.Option.{option_map_or}
 use Rattle.cred_record.specs.Credential.{Credential}
@@ -71,7 +71,7 @@ like_lent before (Altering base writer change made) sound is =
     subst (λ slot. IsLike (record before.state { creds = cleared slot before.state.creds }) before.state) by.is
     (cleared_like before.state sound by.label by.preparation by.prepared)
 
--- a decision leaves the entries
+-- a decision leaves the loans
 pub entries_bare : (lent : Lent) → entries_of (undecided lent) ≡ entries_of lent
 entries_bare (Asking hold query told) = refl
 entries_bare (Opening hold file want fd may) = refl

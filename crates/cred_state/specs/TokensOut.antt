@@ -24,11 +24,11 @@ use Rattle.cred_work.specs.declared.lent.Lent.TheVariants.{Asking, Opening, Sign
 use Rattle.cred_tables.specs.Kept.{Standing, creds_in}
 use Rattle.cred_tables.specs.Out.{ArePut, cleared}
 
--- the entry of a hold that is lent
+-- the loan of a hold
 abbrev pub hold_loan : Held → Loan
 hold_loan hold = loan hold.label hold.slot (Some hold.cred)
 
--- The entries of tokens that are lent, the newest first. A writer's is that of none, whatever it
+-- The loans of tokens that are out, the newest first. A writer's is that of none, whatever it
 -- has put.
 abbrev pub entries_of : Lent → List Loan
 entries_of (Asking hold query told) = hold_loan hold ∷ []

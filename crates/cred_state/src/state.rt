@@ -70,17 +70,18 @@ impl Model for State {
     ghost view = { λ s. record {
       state = state_of (as_parts s.tasks s.casts s.files s.holds s.prepared s.dump s.infos)
           s.master.slots s.slots;
-      words = record { id = s.master.id; out = s.master.entries };
+      words = record { id = s.master.id; out = s.master.loans };
       places = s.master.slots;
     } };
 
     ghost invariant = { λ s.
-        IsKept (as_parts s.tasks s.casts s.files s.holds s.prepared s.dump s.infos) s.master.slots s.slots
-        × ArePut s.prepared s.master.entries s.master.slots };
+        IsKept (as_parts s.tasks s.casts s.files s.holds s.prepared s.dump s.infos)
+        s.master.slots s.slots
+        × ArePut s.prepared s.master.loans s.master.slots };
 }
 
-/// Written out, so that it is proved here alone: of a derived one, each crate above that lets go of
-/// a state proves all parts anew.
+/// Written out, so that it is proved here alone: of a derived one, each crate above that drops a
+/// state proves all parts anew.
 impl Drop for State {
     fn drop(self) {
         let State {
@@ -129,7 +130,7 @@ impl State {
     fn over(alloc: Global, script: &Script, master: Master) -> Result<State, NoMemory>
         ensures state { IfOk result (λ state. state.state ≡ opening script.now) }
         ensures own { IfOk result (λ state. state.words.id ≡ master.id) }
-        ensures out { IfOk result (λ state. state.words.out ≡ master.entries) }
+        ensures out { IfOk result (λ state. state.words.out ≡ master.loans) }
     {
         let slots = Slots::new(alloc)?;
         let dump = Dump::new(alloc)?;
@@ -367,7 +368,7 @@ impl State {
         self.holds.get(label).is_some() || self.prepared.get(label).is_some()
     }
 
-    /// All references that were given up since the last sweep are let go.
+    /// All references that were given up since the last sweep are dropped.
     fn sweep(&mut self) -> Answer
         ensures made { (script : Declared) (line : ℕ)
             → Gives self.old.state (done script self.old.state line Sweep) result self.new.state }

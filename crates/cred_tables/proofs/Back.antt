@@ -1,12 +1,13 @@
 -- What is lent and comes back: lists as they were, places as they were.
-use Rattle.std.proofs.Common.{◌≡◌, ◌≢◌, ℕ, zero, suc, ◌+◌, ◌==◌, Bool, cond, List, [], ◌∷◌, ◌++◌, Option, None, Some, slice_get, slice_set, get_or, get_or-set_other, count_by, ◌⊎◌, inl, inr, refl, sym, ap, ◌∙◌, subst, arith}
+use Rattle.std.proofs.Common.{◌≡◌, ◌≢◌, ℕ, zero, suc, ◌+◌, ◌==◌, Bool, cond, List, [], ◌∷◌, ◌++◌, Option, None, Some, slice_get, slice_set, get_or}
+use Rattle.std.proofs.Common.{get_or-set_other, count_by, ◌⊎◌, inl, inr, refl, sym, ap, ◌∙◌, subst, arith}
 use Rattle.std.specs.Option.{option_map_or}
 use Rattle.std.proofs.lemmas.Bool.{cases_eq, eq-eqb, ne_eqb}
 use Rattle.std.proofs.lemmas.List.Sums.{sum_by-cons, sum_by-append}
 use Rattle.cred_record.specs.Credential.{Credential}
-use Rattle.cred_model.specs.State.{SealedCred}
+use Rattle.cred_model.specs.State.{SealedCred, no_credential}
 use Rattle.cred_words.specs.Lists.{Has, IsTaken}
-use Rattle.cred_tables.specs.Kept.{creds_in, no_credential}
+use Rattle.cred_tables.specs.Kept.{creds_in}
 use Rattle.cred_tables.specs.Out.{cleared}
 
 -- ---- an element that is taken from a list

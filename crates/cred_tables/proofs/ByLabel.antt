@@ -1,5 +1,6 @@
 -- What values under labels give and leave, as a list of things that have their labels.
-use Rattle.std.proofs.Common.{◌≡◌, ℕ, suc, ◌+◌, ◌==◌, Bool, true, false, not, cond, nat_lt, List, [], ◌∷◌, ◌++◌, length, map, find, position, remove, slice_get, Option, None, Some, MatchOption, Result, Ok, Err, OnOk, nat_eq, refl, sym, ap, ◌∙◌, arith}
+use Rattle.std.proofs.Common.{◌≡◌, ℕ, suc, ◌+◌, ◌==◌, Bool, true, false, not, cond, nat_lt, List, [], ◌∷◌, ◌++◌, length, map, find, position, remove, slice_get}
+use Rattle.std.proofs.Common.{Option, None, Some, MatchOption, Result, Ok, Err, OnOk, nat_eq, refl, sym, ap, ◌∙◌, arith}
 use Rattle.std.specs.List.{All, position_or_len, prefix_len}
 use Rattle.std.specs.Map.{lookup, remove_entry}
 use Rattle.std.specs.Option.{option_map}
@@ -121,7 +122,8 @@ released label number es after found left =
     record { place = was.0; found = was.1; held = was.2; left = was.3 }
 
 pub release_of : (label : ℕ) (es after : List (ℕ × ℕ)) (found : Option ℕ) → found ≡ lookup (nat_eq label) es → after ≡ remove_entry (nat_eq label) es
-    → MatchOption found ((held.hold_place (holds_of es) label ≡ None) × (holds_of after ≡ holds_of es)) (λ number. Releases (holds_of es) (holds_of after) label number)
+    → MatchOption found ((held.hold_place (holds_of es) label ≡ None) × (holds_of after ≡ holds_of es))
+    (λ number. Releases (holds_of es) (holds_of after) label number)
 release_of label es after None is left = (no_hold label es (sym is), ap holds_of (left ∙ remove-none (nat_eq label) es (sym is)))
 release_of label es after (Some number) is left = released label number es after (sym is) left
 
@@ -131,7 +133,8 @@ taken label number es after is = added (λ l n. hold_entry (l, n)) (λ h. h.labe
 
 -- ---- prepared labels
 
-pub find-prepared : (label : ℕ) (es : List (ℕ × Preparation)) → find (λ p. p.label == label) (all_prepared es) ≡ option_map (prepared_as label) (lookup (nat_eq label) es)
+pub find-prepared : (label : ℕ) (es : List (ℕ × Preparation))
+    → find (λ p. p.label == label) (all_prepared es) ≡ option_map (prepared_as label) (lookup (nat_eq label) es)
 find-prepared label es = find-state_of prepared_as (λ p. p.label) (λ l x. refl) label es
 
 not_prepared : (label : ℕ) (es : List (ℕ × Preparation)) → lookup (nat_eq label) es ≡ None → prepared.prepared_place (all_prepared es) label ≡ None

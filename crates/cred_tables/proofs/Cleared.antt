@@ -1,14 +1,15 @@
 -- What is referred to can be read where nothing is left in the words of a slot to which nothing that is referred to belongs.
-use Rattle.std.proofs.Common.{◌≡◌, ◌≢◌, ℕ, ◌+◌, ◌<◌, ◌==◌, not, ◌||◌, Bool, true, false, cond, List, [], ◌∷◌, Option, None, Some, slice_get, slice_set, get_or, get_or-set_other, ◌⊎◌, inl, inr, refl, sym, ap, ◌∙◌, subst, arith}
+use Rattle.std.proofs.Common.{◌≡◌, ◌≢◌, ℕ, ◌+◌, ◌<◌, ◌==◌, not, ◌||◌, Bool, true, false, cond, List, [], ◌∷◌, Option, None, Some, slice_get, slice_set, get_or}
+use Rattle.std.proofs.Common.{get_or-set_other, ◌⊎◌, inl, inr, refl, sym, ap, ◌∙◌, subst, arith}
 use Rattle.std.specs.List.{All, count_by, list_any, range_with_len}
 use Rattle.std.specs.Option.{IsSome, option_map_or}
 use Rattle.std.proofs.lemmas.Bool.{cases_eq, eq-eqb, eqb-true, false≢true}
 use Rattle.std.proofs.lemmas.List.Elements.{All-head, All-tail}
 use Rattle.std.proofs.lemmas.List.FromFn.{get_or-range_with_len, length-range_with_len}
-use Rattle.cred_ids.specs.Limits.{SLOTS}
+use Rattle.cred_ids.specs.Limits.{SLOTS, slots}
 use Rattle.cred_record.specs.Credential.{Credential}
 use Rattle.cred_model.proofs.Lists.{found}
-use Rattle.cred_slots.specs.Table.{Table, free_in, is_kept_in, is_live_in, references, references_to, slots, is_sealed_in, swept_table_if_full}
+use Rattle.cred_slots.specs.Table.{Table, free_in, is_kept_in, is_live_in, references, references_to, is_sealed_in, swept_table_if_full}
 use Rattle.cred_slots.proofs.Counting.{count-cons}
 use Rattle.cred_tables.specs.Kept.{AreFilled}
 use Rattle.cred_tables.proofs.Filled.{NoMore}
@@ -16,7 +17,8 @@ use Rattle.cred_tables.proofs.Filled.{NoMore}
 -- whatever is left in the slot's words
 pub filled_spare : (store : List (Option Credential)) (slot : ℕ) (v : Option Credential) {t later : Table} → later.sealed ≡ t.sealed → NoMore t later
     → ((n : ℕ) → slice_get t.sealed n ≡ Some slot → 0 < references_to later n → ⊥) → AreFilled store t → AreFilled (slice_set store slot v) later
-filled_spare store slot v {t = t} {later = later} sealed fewer unused is = record { each = λ n place at some. by n place (ap (λ ss. slice_get ss n) (sym sealed) ∙ at) some (cases_eq place slot) }
+filled_spare store slot v {t = t} {later = later} sealed fewer unused is =
+    record { each = λ n place at some. by n place (ap (λ ss. slice_get ss n) (sym sealed) ∙ at) some (cases_eq place slot) }
   where
     by : (n place : ℕ) → slice_get t.sealed n ≡ Some place → 0 < references_to later n → (place ≡ slot) ⊎ (place ≢ slot)
         → IsSome (get_or (slice_set store slot v) place None)
@@ -60,7 +62,8 @@ pub free_clear : (t : Table) (slot : ℕ) → free_in t ≡ Some slot → (n : �
 free_clear t slot takes n at some =
     let room = swept_table_if_full t in
     let stands : is_sealed_in t.sealed slot n ≡ true = ap (λ o. option_map_or (λ k. k == slot) o false) at ∙ eq-eqb slot slot refl in
-    let live : list_any (λ m. is_sealed_in t.sealed slot m) (references room) ≡ true = any_counted (λ m. is_sealed_in t.sealed slot m) (references room) n stands some in
+    let live : list_any (λ m. is_sealed_in t.sealed slot m) (references room) ≡ true =
+    any_counted (λ m. is_sealed_in t.sealed slot m) (references room) n stands some in
     let Any : ℕ → Type 0 = λ k. Unit {0} in
     let not_live = (found Any (λ k. not (is_live_in room k)) slots slot takes (λ k d lt. tt)).1 in
     false≢true (sym (ap (λ b. not (b || is_kept_in t slot)) live) ∙ not_live)

@@ -1,5 +1,6 @@
 -- Tasks end, and what they referred to is given up.
-use Rattle.std.proofs.Common.{◌≡◌, ℕ, ◌+◌, ◌<◌, ◌==◌, Bool, false, List, [], ◌∷◌, ◌++◌, append_assoc, count_by, drop, filter, find, flat_map, get_or, length, map, take, Option, None, Some, Ok, refl, sym, ap, ◌∙◌, subst, arith}
+use Rattle.std.proofs.Common.{◌≡◌, ℕ, ◌+◌, ◌<◌, ◌==◌, Bool, false, List, [], ◌∷◌, ◌++◌, append_assoc, count_by, drop, filter, find, flat_map, get_or, length}
+use Rattle.std.proofs.Common.{map, take, Option, None, Some, Ok, refl, sym, ap, ◌∙◌, subst, arith}
 use Rattle.std.specs.Option.{IfSome, option_map}
 use Rattle.std.proofs.lemmas.List.{take_more, take-append-drop, length-map}
 use Rattle.std.proofs.lemmas.List.Sums.{length-filter}
@@ -56,7 +57,8 @@ module _ (numbers held : List ℕ) (each : AreHeld numbers held) (left : List �
       let more = ap (λ (ns : List ℕ). count_by test ns) (take_more numbers i d within) ∙ count-append test (take i numbers) (next ∷ []) in
       let one = count-cons test next [] in
       let here = counts_itself next in
-      let whole = ap (λ (ns : List ℕ). count_by test ns) (sym (take-append-drop (i + 1) numbers)) ∙ count-append test (take (i + 1) numbers) (drop (i + 1) numbers) in
+      let whole =
+      ap (λ (ns : List ℕ). count_by test ns) (sym (take-append-drop (i + 1) numbers)) ∙ count-append test (take (i + 1) numbers) (drop (i + 1) numbers) in
       omega (arith, each next, all, more, one, here, whole)
 
   -- what is held once it is given up
@@ -117,7 +119,8 @@ pub ends_so : (change : Change) (tasks after : List Task) (t : Table) {r t' : Ta
     → IfSome (find (λ u. u.number == task) tasks) (λ owner. EndsTasks (ends_with change owner) tasks after ended numbers)
     → r ≡ record t { spare = m } → given ≡ numbers → IsSameBag r.held (given ++ t'.held)
     → t' ≡ record r { held = t'.held; deferred = r.deferred ++ given } → EndsWith change tasks after t t' task now ended
-ends_so change tasks after t {r} {t'} {m} {ended} {numbers} {given} task now has ends spared same held made = by (find (λ u. u.number == task) tasks) refl has ends
+ends_so change tasks after t {r} {t'} {m} {ended} {numbers} {given} task now has ends spared same held made =
+    by (find (λ u. u.number == task) tasks) refl has ends
   where
     by : (found : Option Task) → find (λ u. u.number == task) tasks ≡ found → Some now ≡ option_map (λ t. t.current) found
         → IfSome found (λ owner. EndsTasks (ends_with change owner) tasks after ended numbers) → EndsWith change tasks after t t' task now ended

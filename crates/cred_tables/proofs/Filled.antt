@@ -1,5 +1,6 @@
 -- What is referred to can be read, whatever is given up, added or sealed.
-use Rattle.std.proofs.Common.{◌≡◌, ◌≢◌, ℕ, zero, suc, ◌<◌, ◌≤◌, ◌==◌, Bool, true, false, cond, List, [], ◌∷◌, ◌++◌, length, Option, None, Some, is_some, slice_get, slice_set, get_or, get_or-set_same, get_or-set_other, ◌⊎◌, inl, inr, refl, sym, ap, ◌∙◌, subst, arith}
+use Rattle.std.proofs.Common.{◌≡◌, ◌≢◌, ℕ, zero, suc, ◌<◌, ◌≤◌, ◌==◌, Bool, true, false, cond, List, [], ◌∷◌, ◌++◌, length, Option, None, Some, is_some}
+use Rattle.std.proofs.Common.{slice_get, slice_set, get_or, get_or-set_same, get_or-set_other, ◌⊎◌, inl, inr, refl, sym, ap, ◌∙◌, subst, arith}
 use Rattle.std.specs.List.{count_by}
 use Rattle.std.specs.Option.{IsSome}
 use Rattle.std.proofs.lemmas.Bool.{cases_eq, ne_eqb}
@@ -34,7 +35,7 @@ no_more_dropped t later ms drops late n some =
     let each = count-append test t.held t.deferred in
     omega (arith, some, held, deferred, all, each)
 
--- a sweep lets go of them
+-- a sweep drops them
 pub no_more_swept : (t : Table) → NoMore t (swept_table t)
 no_more_swept t n some =
     let test : ℕ → Bool = λ k. k == n in
@@ -59,7 +60,8 @@ counts_none true is = cc
 counts_none false is = refl
 
 -- of other numbers than this there are no more
-no_others : (t later : Table) (m : ℕ) → IsSameBag later.held (m ∷ t.held) → NoLater t later → (n : ℕ) → m ≢ n → 0 < references_to later n → 0 < references_to t n
+no_others : (t later : Table) (m : ℕ) → IsSameBag later.held (m ∷ t.held) → NoLater t later → (n : ℕ) → m ≢ n → 0 < references_to later n
+    → 0 < references_to t n
 no_others t later m adds fewer n ne some =
     let test : ℕ → Bool = λ k. k == n in
     let held = adds.counts test ∙ count-cons test m t.held in

@@ -1,5 +1,6 @@
 -- How the references that stand are counted while tasks, holds and prepared labels change.
-use Rattle.std.proofs.Common.{◌≡◌, ◌≢◌, ℕ, zero, suc, ◌+◌, ◌<◌, Bool, true, false, not, cond, ◌==◌, List, [], ◌∷◌, ◌++◌, map, find, remove, slice_get, Some, refl, ap, ◌∙◌, subst, arith}
+use Rattle.std.proofs.Common.{◌≡◌, ◌≢◌, ℕ, zero, suc, ◌+◌, ◌<◌, Bool, true, false, not, cond, ◌==◌, List, [], ◌∷◌, ◌++◌, map, find, remove, slice_get, Some}
+use Rattle.std.proofs.Common.{refl, ap, ◌∙◌, subst, arith}
 use Rattle.std.specs.List.{All, AllPairs, count_by, filter, flat_map}
 use Rattle.std.proofs.lemmas.Bool.{eqb-true}
 use Rattle.std.proofs.lemmas.Bool.Decides.{nat_tests}
@@ -234,7 +235,8 @@ count-ended test ends (t ∷ ts) = by (ends t) (count-ended test ends ts)
         ≡ count_by test (left_by ends ts) + (count_by test (currents (survivors ends ts)) + count_by test (overrides (survivors ends ts)))
         → count_by test (currents (t ∷ ts)) + count_by test (overrides (t ∷ ts))
         ≡ count_by test (flat_map numbers_of (cond b (t ∷ filter ends ts) (filter ends ts)))
-        + (count_by test (currents (cond (not b) (t ∷ survivors ends ts) (survivors ends ts))) + count_by test (overrides (cond (not b) (t ∷ survivors ends ts) (survivors ends ts))))
+        + (count_by test (currents (cond (not b) (t ∷ survivors ends ts) (survivors ends ts))) + count_by test
+        (overrides (cond (not b) (t ∷ survivors ends ts) (survivors ends ts))))
     by true rest =
         let one = count-cons test t.current (currents ts) in
         let more = count-append test t.overrides (overrides ts) in

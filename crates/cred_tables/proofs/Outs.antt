@@ -1,5 +1,6 @@
 -- What is lent under a label: the credential that the label holds, or the slot that it keeps and the base of what it prepares.
-use Rattle.std.proofs.Common.{◌≡◌, ◌≢◌, ℕ, zero, suc, ◌<◌, ◌==◌, ◌&&◌, Bool, true, false, cond, List, [], ◌∷◌, ◌++◌, find, map, Option, None, Some, is_some, slice_get, slice_set, get_or, ◌⊎◌, inl, inr, refl, sym, ap, ◌∙◌, subst, arith}
+use Rattle.std.proofs.Common.{◌≡◌, ◌≢◌, ℕ, zero, suc, ◌<◌, ◌==◌, ◌&&◌, Bool, true, false, cond, List, [], ◌∷◌, ◌++◌, find, map, Option, None, Some, is_some}
+use Rattle.std.proofs.Common.{slice_get, slice_set, get_or, ◌⊎◌, inl, inr, refl, sym, ap, ◌∙◌, subst, arith}
 use Rattle.std.specs.List.{All}
 use Rattle.std.specs.Option.{option_map, option_map_or, option_and_then}
 use Rattle.std.proofs.lemmas.Bool.{false≢true, eqb-true, ne_eqb}
@@ -8,7 +9,7 @@ use Rattle.std.proofs.lemmas.Option.{slice_get-get_or, slice_get-map, same_Some}
 use Rattle.cred_record.specs.Credential.{Credential}
 use Rattle.cred_event.specs.declared.event.Event.{Event}
 use Rattle.cred_event.specs.declared.event.Event.TheVariants.{Ask, Signal, Alter, OpenFile}
-use Rattle.cred_model.specs.State.{State, Hold, Prepared, Numbered, SealedCred, numbered, hold_of, prepared_of, held_by}
+use Rattle.cred_model.specs.State.{State, Hold, Prepared, Numbered, SealedCred, numbered, hold_of, prepared_of, held_by, no_credential}
 use Rattle.cred_model.specs.Slots.{in_use, refs, swept}
 use Rattle.cred_model.specs.Like.{IsLike}
 use Rattle.cred_model.proofs.Lists.{found, All-at, All-unmap, AllPairs-unmap, alone, map_same}
@@ -24,7 +25,7 @@ use Rattle.cred_slots.specs.Table.{Table, is_kept_in, references_to}
 use Rattle.cred_slots.specs.Table as table
 use Rattle.cred_slots.proofs.Tables.{held_is_referred}
 use Rattle.cred_slots.proofs.Counting.{count-append}
-use Rattle.cred_tables.specs.Kept.{Parts, state_of, creds_in, no_credential, IsKept, IsInUse}
+use Rattle.cred_tables.specs.Kept.{Parts, state_of, creds_in, IsKept, IsInUse}
 use Rattle.cred_tables.specs.Out.{AreOut, cleared, hold_token, kept_tokens, tokens_in, needs_tokens}
 use Rattle.cred_tables.proofs.Bags.{bag-at, count-at}
 use Rattle.cred_tables.proofs.Cleared.{count_found, filled_spare, free_clear}
@@ -175,7 +176,8 @@ module _ (a b : State) (like : IsLike a b) where
   pub kept_like : (label : ℕ) → kept_tokens a label ≡ kept_tokens b label
   kept_like label = by (prepared_of a label) refl ∙ ap (λ o. of_prepared a label b.creds o) (prepared_like label)
     where
-      by : (o : Option Prepared) → prepared_of a label ≡ o → of_prepared a label a.creds (prepared_of a label) ≡ of_prepared a label b.creds (prepared_of a label)
+      by : (o : Option Prepared) → prepared_of a label ≡ o
+          → of_prepared a label a.creds (prepared_of a label) ≡ of_prepared a label b.creds (prepared_of a label)
       by None is = ap (λ o. of_prepared a label a.creds o) is ∙ sym (ap (λ o. of_prepared a label b.creds o) is)
       by (Some p) is =
           ap (λ o. of_prepared a label a.creds o) is
@@ -333,7 +335,9 @@ module _ (s : State) (sound : IsSound s) (label : ℕ) (p : Prepared) (is : prep
               → option_map (λ x. cond (x.slot == p.slot) (record { cred = no_credential; slot = x.slot }) x) o ≡ o
           one None at = refl
           one (Some x) at =
-              ap Some (test_of x (λ same. clear (slice_get-map (λ (c : SealedCred). c.slot) s.creds n ∙ ap (option_map (λ (c : SealedCred). c.slot)) at ∙ ap Some same)))
+              ap Some
+              (test_of x
+              (λ same. clear (slice_get-map (λ (c : SealedCred). c.slot) s.creds n ∙ ap (option_map (λ (c : SealedCred). c.slot)) at ∙ ap Some same)))
 
 -- ---- what comes back is the label's
 
@@ -421,7 +425,8 @@ module _ (s : State) (sound : IsSound s) (out : List Loan) (are : AreOut s out) 
 
 -- ---- a slot that is free
 
-at_slot : (store : List (Option Credential)) (slots : List ℕ) (n : ℕ) (x : SealedCred) → slice_get (creds_in store slots) n ≡ Some x → slice_get slots n ≡ Some x.slot
+at_slot : (store : List (Option Credential)) (slots : List ℕ) (n : ℕ) (x : SealedCred) → slice_get (creds_in store slots) n ≡ Some x
+    → slice_get slots n ≡ Some x.slot
 at_slot store [] n x at = cc
 at_slot store (s ∷ slots) zero x at = ap (λ (o : Option SealedCred). option_map (λ x. x.slot) o) at
 at_slot store (s ∷ slots) (suc n) x at = at_slot store slots n x at
@@ -453,7 +458,8 @@ module _ {parts : Parts} {store : List (Option Credential)} {t : Table} (is : Is
 
     free_base : (label : ℕ) (p : Prepared) (c : Numbered) → prepared_of kept_state label ≡ Some p → numbered kept_state.creds p.base ≡ Some c → c.slot ≢ slot
     free_base label p c there at =
-        unused p.base c (found (λ (x : Prepared). IsInUse kept_state x.base) (λ (x : Prepared). x.label == label) kept_state.prepared p there each_used.bases).0 at
+        unused p.base c
+        (found (λ (x : Prepared). IsInUse kept_state x.base) (λ (x : Prepared). x.label == label) kept_state.prepared p there each_used.bases).0 at
 
     -- no label keeps it
     pub free_apart : All (λ (p : Prepared). p.slot ≢ slot) parts.prepared

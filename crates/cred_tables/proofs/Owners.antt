@@ -5,9 +5,10 @@ use Rattle.std.specs.Option.{IfSome, IsSome, option_and_then, option_map}
 use Rattle.cred_event.specs.declared.answer.Answer.{Answer}
 use Rattle.cred_event.specs.declared.answer.Answer.TheVariants.{NoTask, Overridden}
 use Rattle.cred_model.specs.State.{State, Task, Broadcast, Numbered, numbered, task_of, current_of}
-use Rattle.cred_model.specs.Moves.{◌>>=◌, not_overridden}
+use Rattle.cred_model.specs.Moves.{not_overridden}
 use Rattle.cred_model.specs.Step.{outcome}
 use Rattle.cred_model.proofs.Places.{if_some}
+use Rattle.cred_ids.specs.Tests.{◌>>=◌}
 
 -- a task that acts with its current credential, if it is alive, or with another one
 abbrev pub IsOwn : State → ℕ → Type 0
@@ -54,7 +55,8 @@ pub has_process_of : (tasks : List Task) (task number : ℕ) {process : Option �
     → process ≡ option_map (λ t. t.process) (find (λ t. t.number == task) tasks) → IsSome process
 has_process_of tasks task number has is = by (find (λ t. t.number == task) tasks) has is
   where
-    by : {process : Option ℕ} (found : Option Task) → Some number ≡ option_map (λ t. t.current) found → process ≡ option_map (λ t. t.process) found → IsSome process
+    by : {process : Option ℕ} (found : Option Task) → Some number ≡ option_map (λ t. t.current) found → process ≡ option_map (λ t. t.process) found
+        → IsSome process
     by None has is = cc
     by (Some owner) has is = rw is refl
 

@@ -1,5 +1,6 @@
 -- What was prepared stands in the slots that are kept, whatever is lent, taken back, put elsewhere, begun or given up.
-use Rattle.std.proofs.Common.{◌≡◌, ◌≢◌, ℕ, zero, suc, ◌<◌, ◌==◌, Bool, true, false, cond, List, [], ◌∷◌, ◌++◌, length, remove, Option, None, Some, slice_get, slice_set, get_or, ◌⊎◌, inl, inr, refl, sym, ap, ◌∙◌, subst, arith}
+use Rattle.std.proofs.Common.{◌≡◌, ◌≢◌, ℕ, zero, suc, ◌<◌, ◌==◌, Bool, true, false, cond, List, [], ◌∷◌, ◌++◌, length, remove, Option, None, Some, slice_get}
+use Rattle.std.proofs.Common.{slice_set, get_or, ◌⊎◌, inl, inr, refl, sym, ap, ◌∙◌, subst, arith}
 use Rattle.std.specs.List.{All}
 use Rattle.std.specs.Option.{option_map}
 use Rattle.std.proofs.lemmas.Bool.{cases_eq, eqb-true}
@@ -32,7 +33,8 @@ pub alone_rest : (es out : List Loan) (slot : ℕ) → IsAlone (es ++ out) slot 
 alone_rest [] out slot is = is
 alone_rest (e ∷ es) out slot is = alone_rest es out slot is.1
 
-alone_with : (before : List Loan) (e : Loan) (after : List Loan) (slot : ℕ) → e.slot ≢ slot → IsAlone (before ++ after) slot → IsAlone (before ++ e ∷ after) slot
+alone_with : (before : List Loan) (e : Loan) (after : List Loan) (slot : ℕ) → e.slot ≢ slot → IsAlone (before ++ after) slot
+    → IsAlone (before ++ e ∷ after) slot
 alone_with [] e after slot ne is = (ne, is)
 alone_with (x ∷ before) e after slot ne is = (is.0, alone_with before e after slot ne is.1)
 
@@ -52,11 +54,13 @@ abbrev pub IsSet : List Loan → List Loan → ℕ → Option Credential → Pre
 IsSet old new slot value p =
     IsAlone new p.slot → ((p.slot ≡ slot) × (value ≡ was_put p)) ⊎ ((p.slot ≢ slot) × IsAlone old p.slot)
 
-pub put_again : (prepared : List Prepared) (old new : List Loan) (places : List (Option Credential)) (slot : ℕ) (value : Option Credential) → slot < length places
+pub put_again : (prepared : List Prepared) (old new : List Loan) (places : List (Option Credential)) (slot : ℕ) (value : Option Credential)
+    → slot < length places
     → ArePut prepared old places → All (IsSet old new slot value) prepared → ArePut prepared new (slice_set places slot value)
 put_again prepared old new places slot value lt are sets k d within alone = by (sets k d within alone)
   where
-    by : (((get_or prepared k d).slot ≡ slot) × (value ≡ was_put (get_or prepared k d))) ⊎ (((get_or prepared k d).slot ≢ slot) × IsAlone old (get_or prepared k d).slot)
+    by : (((get_or prepared k d).slot ≡ slot) × (value ≡ was_put (get_or prepared k d)))
+        ⊎ (((get_or prepared k d).slot ≢ slot) × IsAlone old (get_or prepared k d).slot)
         → slice_get (slice_set places slot value) (get_or prepared k d).slot ≡ Some (was_put (get_or prepared k d))
     by (inl (same, is)) = ap (λ n. slice_get (slice_set places slot value) n) same ∙ set_there places slot value lt ∙ ap Some is
     by (inr (ne, was)) = set_other places slot _ value ne ∙ are k d within was
@@ -67,7 +71,8 @@ pub put_free : (prepared : List Prepared) (out : List Loan) (places : List (Opti
 put_free prepared out places slot value free are k d lt alone = set_other places slot _ value (free k d lt) ∙ are k d lt alone
 
 -- more is lent
-pub put_lent : (prepared : List Prepared) (es out : List Loan) (places : List (Option Credential)) → ArePut prepared out places → ArePut prepared (es ++ out) places
+pub put_lent : (prepared : List Prepared) (es out : List Loan) (places : List (Option Credential)) → ArePut prepared out places
+    → ArePut prepared (es ++ out) places
 put_lent prepared es out places are k d lt alone = are k d lt (alone_rest es out _ alone)
 
 -- and a slot is lent to be written

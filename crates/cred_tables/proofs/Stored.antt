@@ -1,5 +1,6 @@
 -- A state whose credentials stand in their slots' places, when one more is put there.
-use Rattle.std.proofs.Common.{◌≡◌, ◌≢◌, ℕ, zero, suc, ◌<◌, ◌==◌, Bool, true, false, List, [], ◌∷◌, ◌++◌, map, length, Option, None, Some, slice_get, slice_set, get_or, get_or-set_same, get_or-set_other, refl, sym, ap, ◌∙◌, subst, arith}
+use Rattle.std.proofs.Common.{◌≡◌, ◌≢◌, ℕ, zero, suc, ◌<◌, ◌==◌, Bool, true, false, List, [], ◌∷◌, ◌++◌, map, length, Option, None, Some, slice_get, slice_set}
+use Rattle.std.proofs.Common.{get_or, get_or-set_same, get_or-set_other, refl, sym, ap, ◌∙◌, subst, arith}
 use Rattle.std.specs.List.{count_by}
 use Rattle.std.specs.Option.{option_map_or}
 use Rattle.std.proofs.lemmas.Bool.{eq-eqb}
@@ -20,7 +21,8 @@ use Rattle.cred_tables.proofs.Free.{IsTable}
 
 -- where the event gives a state that this one is like
 pub does_made : {gives : Answer × State} {answer : Answer} {made after : State} → gives ≡ (answer, made) → IsLike after made → IsOutcomeLike gives answer after
-does_made {answer = answer} {after = after} is like = subst (λ (g : Answer × State). IsOutcomeLike g answer after) (sym is) (record { answers = refl; leads = like })
+does_made {answer = answer} {after = after} is like =
+    subst (λ (g : Answer × State). IsOutcomeLike g answer after) (sym is) (record { answers = refl; leads = like })
 
 -- ---- the state that is kept
 

@@ -8,11 +8,10 @@ use Rattle.cred_event.specs.declared.answer.AbortCause.{AbortCause}
 use Rattle.cred_event.specs.declared.answer.AbortCause.TheVariants.{Perm, Full}
 use Rattle.cred_model.specs.State.{State, Task, Broadcast, Numbered, task_of, current_of, cast_of}
 use Rattle.cred_model.specs.State.{cast_in}
-use Rattle.cred_model.specs.Slots.{swept}
-use Rattle.cred_model.specs.Casts.{others_of, with_cast}
+use Rattle.cred_model.specs.Casts.{others_of, with_cast, WaitsNowhere}
 use Rattle.cred_model.specs.Ends.{is_beside}
 use Rattle.cred_model.specs.Moves.{not_overridden}
-use Rattle.cred_cast.specs.Casts.{WaitsNowhere, cast_under, cast_within}
+use Rattle.cred_cast.specs.Casts.{cast_under, cast_within}
 use Rattle.cred_procs.specs.Tasks.{task_in, those}
 use Rattle.cred_slots.specs.Table.{Table}
 use Rattle.cred_slots.specs.Table as table
@@ -35,12 +34,7 @@ pub record ActsNext (s : State) (number cast task place : ℕ) (now : Numbered) 
   pub there : slice_get s.tasks place ≡ task_of s task
   pub has : current_of s task ≡ Some now
 
--- the state that a task which couldn't follow a call left: a sweep is made before a want of a slot
-abbrev pub at_abort : AbortCause → State → State
-at_abort Perm s = s
-at_abort Full s = swept s
-
--- and the table of its slots
+-- the table of slots where `at_abort` is the state
 abbrev pub table_at : AbortCause → Table → Table
 table_at Perm t = t
 table_at Full t = table.swept_table t

@@ -13,7 +13,7 @@ holds_of entries = map hold_entry entries
 abbrev pub hold_place : List Hold → ℕ → Option ℕ
 hold_place holds label = position (λ h. h.label == label) holds
 
--- The label let go of this number, and the other holds stay in their order.
+-- The label dropped this number, and the other holds stay in their order.
 pub record Releases (before after : List Hold) (label number : ℕ) : Type 0 where
   pub place : ℕ
   pub found : hold_place before label ≡ Some place

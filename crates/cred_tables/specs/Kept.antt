@@ -8,23 +8,16 @@ use Rattle.std.specs.List.{list_any}
 use Rattle.std.specs.Option.{IsSome, option_map_or}
 use Rattle.cred_ids.specs.Limits.{SLOTS}
 use Rattle.atomic_table.specs.Seated.{TableId}
-use Rattle.cred_record.specs.Credential.{Credential, first_credential}
+use Rattle.cred_record.specs.Credential.{Credential}
 use Rattle.cred_record.specs.File.{File}
 use Rattle.cred_model.specs.State.{State, Task, Broadcast, OpenFile, Hold, Prepared, SealedCred}
-use Rattle.cred_model.specs.State.{Numbered, ProcessFlag}
-use Rattle.cred_event.specs.declared.event.Change.{Change}
-use Rattle.cred_event.specs.declared.event.Change.TheVariants.{Exec}
-use Rattle.cred_model.specs.Casts.{dropped}
+use Rattle.cred_model.specs.State.{Numbered, ProcessFlag, no_credential}
 use Rattle.cred_model.specs.Slots.{in_use, kept, refs}
 use Rattle.cred_hold.specs.Tokens.{Loan}
 use Rattle.cred_slots.specs.Table.{Table, IsSameBag, IsOnlyUser, is_kept_in, swept_table_if_full}
 use Rattle.cred_slots.specs.Table.{free_in}
 use Rattle.cred_slots.specs.Table.{references_to}
 use Rattle.cred_tables.specs.declared.table.Numbered as table
-
--- what stands for the credential of a place that has none
-unfoldable pub no_credential : Credential
-no_credential = first_credential 0 0 0 0
 
 -- the credential in a slot's place
 abbrev pub stored_at : List (Option Credential) → ℕ → Credential
@@ -33,10 +26,6 @@ stored_at store slot = option_map_or (λ cred. cred) (slice_index_or store slot 
 -- what stands under each sealed number, where these are their slots
 abbrev pub creds_in : List (Option Credential) → List ℕ → List SealedCred
 creds_in store slots = map (λ slot. record { cred = stored_at store slot; slot = slot }) slots
-
--- a sealed credential by its number and its slot alone, where it doesn't matter which one it is
-abbrev pub numbered_in : ℕ → ℕ → Numbered
-numbered_in number slot = record { number = number; cred = no_credential; slot = slot }
 
 -- the credential under a number
 abbrev pub cred_under : List SealedCred → ℕ → Credential
@@ -75,12 +64,6 @@ as_parts tasks casts files holds prepared dumpable infos = record {
   dumpable = dumpable;
   infos = infos;
 }
-
--- the broadcasts that a commit of this change leaves open: an execve drops that of its process
--- (execve(2))
-abbrev pub casts_left : Change → ℕ → List Broadcast → List Broadcast
-casts_left (Exec file) process casts = dropped process casts
-casts_left change process casts = casts
 
 -- the shared words that credentials stand in: the identity of the cells, and what is lent of them
 pub record Words : Type 0 where

@@ -9,11 +9,11 @@ use Rattle.cred_record.specs.Credential.{Credential}
 use Rattle.cred_event.specs.declared.event.Event.{Event}
 use Rattle.cred_event.specs.declared.event.Event.TheVariants.{Ask, Signal, Alter, OpenFile}
 use Rattle.cred_model.specs.State.{State, Prepared, SealedCred, hold_of, prepared_of, held_by}
-use Rattle.cred_model.specs.State.{numbered}
+use Rattle.cred_model.specs.State.{numbered, no_credential}
 use Rattle.cred_names.specs.Labels.{event_labels}
 use Rattle.cred_words.specs.Lists.{Has}
 use Rattle.cred_hold.specs.Tokens.{Loan, loan, IsAlone}
-use Rattle.cred_tables.specs.Kept.{Words, no_credential}
+use Rattle.cred_tables.specs.Kept.{Words}
 
 -- The event waits for a decision on credentials that are there: those that its labels hold, or the
 -- base of what its label prepares.

@@ -3,13 +3,12 @@ ghost use Rattle.std.specs.Prelude.{◌≡◌, IfOk, IfSome, OnErr};
 ghost use Rattle.std.specs.Option.{IsSome};
 ghost use Rattle.cred_model.specs.Step as model;
 ghost use Rattle.cred_procs.specs.Tasks.{EndsTasks, task_in};
-ghost use Rattle.cred_tables.specs.Kept.{casts_left};
+ghost use Rattle.cred_model.specs.Casts.{casts_left};
 
 use cred_cast::Casts;
-use cred_event::{Answer, Change};
+use cred_event::Change;
 use cred_ids::NoMemory;
 use cred_procs::{CredNumbers, Ended, Procs, TaskList};
-use cred_record::Gains;
 use std::alloc::Global;
 
 /// The tasks end that end where the task commits this change: all other threads of its process with
@@ -44,21 +43,5 @@ pub fn drop_cast(casts: &mut Casts, change: Change, process: u32)
 {
     if let Change::Exec { .. } = change {
         casts.dropped(process);
-    }
-}
-
-/// What a commit answers, by what the change was, and what the new credential gains: that was
-/// sealed under this number in this slot, and so many tasks ended.
-pub fn committed_by(change: Change, gains: &Gains, cred: u64, slot: u32, ended: u32) -> Answer
-    ensures { result ≡ model.committed_by change gains.now cred slot ended }
-{
-    match change {
-        Change::Exec { .. } => Answer::Executed {
-            cred,
-            slot,
-            ended,
-            gains: *gains,
-        },
-        _ => Answer::Sealed { cred, slot },
     }
 }

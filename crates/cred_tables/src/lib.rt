@@ -1,7 +1,7 @@
-//! The tables that the state of a run is made of, beside those of tasks, broadcasts and open files:
-//! the holds and the prepared labels, and where the sealed credentials stand in the shared words.
-//! Where one call changes several of them, or the tasks together with the broadcasts or with the
-//! flags of the processes, it stands here too.
+//! The tables of holds and of prepared labels, and what changes several tables of the state at
+//! once. Read it as part of `cred_state`.
+//!
+//! It says too where the sealed credentials stand in the shared words.
 #![tactic(auto)]
 
 mod casts;
@@ -14,7 +14,7 @@ mod seal;
 mod table;
 
 pub use casts::{begin_in, spawn_in};
-pub use ends::{committed_by, drop_cast, end_with};
+pub use ends::{drop_cast, end_with};
 pub use flags::{exit_in, fork_in, renew_in, start_in};
 pub use holds::Holds;
 pub use prepared::{Changed, GivenUp, Preparation, Preparing, Ready};

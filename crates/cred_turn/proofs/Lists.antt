@@ -48,7 +48,8 @@ apart_snoc [] p h i = (tt, tt)
 apart_snoc (q ∷ ps) p h i = (all_snoc (Other q) ps p h.0 (λ e. i.0 (sym e)), apart_snoc ps p h.1 i.1)
 
 -- what holds of each pass holds of the one at j, and of the others once it is spent
-pub spent_all : (P : Lent → Type 0) (vs : List View) (j : ℕ) (p : Lent) → get_elem? vs j ≡ some (Pass p) → AllByRecursion P (passes vs) → P p × AllByRecursion P (passes (set vs j Spent))
+pub spent_all : (P : Lent → Type 0) (vs : List View) (j : ℕ) (p : Lent) → get_elem? vs j ≡ some (Pass p) → AllByRecursion P (passes vs)
+    → P p × AllByRecursion P (passes (set vs j Spent))
 spent_all P [] j p e h = absurd (cc)
 spent_all P (Roll rows kept ∷ vs) zero p e h = absurd (cc)
 spent_all P (Roll rows kept ∷ vs) (suc j) p e h = spent_all P vs j p e h

@@ -17,7 +17,8 @@ no_roll_at (Pass p ∷ vs) zero r k h at = let same : Pass p ≡ Roll r k = same
 no_roll_at (Spent ∷ vs) zero r k h at = let same : Spent ≡ Roll r k = same_Some _ _ at in absurd (cc)
 no_roll_at (v ∷ vs) (suc i) r k h at = no_roll_at vs i r k h.1 at
 
-no_other : (rows : List Row) (kept : Option Lent) (others : List View) → AllByRecursion IsNoRoll others → (i : ℕ) (r : List Row) (k : Option Lent) → slice_get (Roll rows kept ∷ others) i ≡ Some (Roll r k) → i ≡ 0
+no_other : (rows : List Row) (kept : Option Lent) (others : List View) → AllByRecursion IsNoRoll others → (i : ℕ) (r : List Row) (k : Option Lent)
+    → slice_get (Roll rows kept ∷ others) i ≡ Some (Roll r k) → i ≡ 0
 no_other rows kept others h zero r k at = refl
 no_other rows kept others h (suc i) r k at = absurd (no_roll_at others i r k h at)
 
@@ -35,7 +36,8 @@ pass_at P (Spent ∷ vs) zero p at h = let same : Spent ≡ Pass p = same_Some _
 pass_at P (Spent ∷ vs) (suc i) p at h = pass_at P vs i p at h
 
 -- two places with passes of one lane are one place
-one_place : (vs : List View) (i j : ℕ) (p q : Lent) → slice_get vs i ≡ Some (Pass p) → slice_get vs j ≡ Some (Pass q) → p.lane ≡ q.lane → LanesApart (passes vs) → i ≡ j
+one_place : (vs : List View) (i j : ℕ) (p q : Lent) → slice_get vs i ≡ Some (Pass p) → slice_get vs j ≡ Some (Pass q) → p.lane ≡ q.lane
+    → LanesApart (passes vs) → i ≡ j
 one_place [] i j p q at at' same a = absurd (cc)
 one_place (v ∷ vs) zero zero p q at at' same a = refl
 one_place (Roll r k ∷ vs) zero (suc j) p q at at' same a = let whole : Roll r k ≡ Pass p = same_Some _ _ at in absurd (cc)
@@ -69,13 +71,15 @@ view_at (u ∷ vs) (suc i) v h at = view_at vs i v h.1 at
 aside_is : (kept : Option Lent) (p : Lent) → kept ≡ Some p → pass_aside kept ≡ Pass p
 aside_is kept p e = ap pass_aside e
 
-stands : (rows : List Row) (kept : Option Lent) (others : List View) (i : ℕ) (p : Lent) → AllByRecursion IsNoRoll others → HasPass (Roll rows kept ∷ others) i p → slice_get (pass_aside kept ∷ others) i ≡ Some (Pass p)
+stands : (rows : List Row) (kept : Option Lent) (others : List View) (i : ℕ) (p : Lent) → AllByRecursion IsNoRoll others
+    → HasPass (Roll rows kept ∷ others) i p → slice_get (pass_aside kept ∷ others) i ≡ Some (Pass p)
 stands rows kept others zero p h (v, at, has) =
     let is : Roll rows kept ≡ v = same_Some _ _ at in
     ap Some (aside_is kept p (ap pass_in is ∙ has))
 stands rows kept others (suc i) p h (v, at, has) = at ∙ ap Some (is_pass v p (view_at others i v h at) has)
 
-has_points : (words : List ℕ) (rows : List Row) (kept : Option Lent) (others : List View) → KeepsPasses words (Roll rows kept ∷ others) rows kept others → PassHasPoints words (Roll rows kept ∷ others)
+has_points : (words : List ℕ) (rows : List Row) (kept : Option Lent) (others : List View) → KeepsPasses words (Roll rows kept ∷ others) rows kept others
+    → PassHasPoints words (Roll rows kept ∷ others)
 has_points words rows kept others k =
     let row : (i : ℕ) (p : Lent) → HasPass (Roll rows kept ∷ others) i p → IsOfRow rows p =
     λ i p has. pass_at (IsOfRow rows) (pass_aside kept ∷ others) i p (stands rows kept others i p k.one_roll has) k.of_rows in
@@ -88,10 +92,12 @@ has_points words rows kept others k =
         has_row = λ i p has. (row i p has).0;
         same_numbers = λ i p has. (row i p has).1;
         apart = λ i j p q has has' same.
-            one_place (pass_aside kept ∷ others) i j p q (stands rows kept others i p k.one_roll has) (stands rows kept others j q k.one_roll has') same k.apart;
+            one_place (pass_aside kept ∷ others) i j p q (stands rows kept others i p k.one_roll has) (stands rows kept others j q k.one_roll has') same
+            k.apart;
       };
     }
 
 pub rule_has_points : PassRuleHasPoints
 rule_has_points words views (rows, kept, others, k) =
-    subst (PassHasPoints words) (sym k.views_are) (has_points words rows kept others (subst (λ (vs : List View). KeepsPasses words vs rows kept others) k.views_are k))
+    subst (PassHasPoints words) (sym k.views_are)
+    (has_points words rows kept others (subst (λ (vs : List View). KeepsPasses words vs rows kept others) k.views_are k))

@@ -13,7 +13,8 @@ use Rattle.cred_turn.specs.declared.view.View.TheVariants.{Roll, Pass, Spent}
 use Rattle.cred_turn.specs.Rows.{home_row, lent_row, HasRow, row_of, with_row}
 use Rattle.cred_turn.specs.Rule.{lent_pass, passes, IsNoRoll, IsOfRow, LanesApart, KeepsPasses, PassRuleHolds}
 use Rattle.cred_turn.specs.Rule.{first_roll, after_lending_pass, pass_of, after_return_of_pass, LearnedPass}
-use Rattle.cred_turn.proofs.Lists.{all_snoc, all_set, all_then, all_both, passes-snoc, Other, apart_snoc, spent_all, spent_apart, home_is_nobodys, row_stays, row_is_lent}
+use Rattle.cred_turn.proofs.Lists.{all_snoc, all_set, all_then, all_both, passes-snoc, Other, apart_snoc, spent_all, spent_apart, home_is_nobodys, row_stays}
+use Rattle.cred_turn.proofs.Lists.{row_is_lent}
 
 abbrev pub Held : Type 0
 Held = View × List (ℕ × Unit {0})
@@ -27,7 +28,8 @@ pub opens : (lanes : ℕ) → PassRuleHolds (0 ∷ []) (first_roll lanes ∷ [])
 opens lanes = (_, None, [], record { word = refl; views_are = refl; one_roll = tt; of_rows = tt; apart = tt })
 
 -- The parts of the rule at a seat that has the roll's view
-others_kept : (words : List ℕ) (views : List View) (rows : List Row) (kept : Option Lent) → get_elem? views 0 ≡ some (Roll rows kept) → PassRuleHolds words views → (others : List View) × KeepsPasses words views rows kept others
+others_kept : (words : List ℕ) (views : List View) (rows : List Row) (kept : Option Lent) → get_elem? views 0 ≡ some (Roll rows kept)
+    → PassRuleHolds words views → (others : List View) × KeepsPasses words views rows kept others
 others_kept words views rows kept at (rows', kept', others, k) =
     let whole : Roll rows' kept' ≡ Roll rows kept = some-injective _ _ (ap (λ (vs : List View). get_elem? vs 0) (sym k.views_are) ∙ at) in
     let same : rows' ≡ rows = cc in
@@ -60,12 +62,14 @@ lends rows lane n here home s h at =
 
 -- 2. Return a pass
 
-pub returns : (rows : List Row) (other : ℕ) (p : Lent) → Joins {S = Unit {0}} Kept 0 (Roll rows None) other (Pass p) (after_return_of_pass (Roll rows None) (Pass p)) Spent
+pub returns : (rows : List Row) (other : ℕ) (p : Lent)
+    → Joins {S = Unit {0}} Kept 0 (Roll rows None) other (Pass p) (after_return_of_pass (Roll rows None) (Pass p)) Spent
 returns rows zero p s h at apart there = absurd (apart refl)
 returns rows (suc j) p s h at apart there =
     let f = others_kept s.words s.views rows None at h in
     let k = f.1 in
-    let place : get_elem? f.0 j ≡ some (Pass p) = ap (λ (vs : List View). get_elem? (slice_set vs 0 (Roll rows (Some p))) (suc j)) (sym k.views_are) ∙ there in (
+    let place : get_elem? f.0 j ≡ some (Pass p) =
+    ap (λ (vs : List View). get_elem? (slice_set vs 0 (Roll rows (Some p))) (suc j)) (sym k.views_are) ∙ there in (
       rows,
       Some p,
       set f.0 j Spent,
@@ -80,7 +84,8 @@ returns rows (suc j) p s h at apart there =
 
 -- 3. The load after a return
 
-pub learns : (rows : List Row) (p : Lent) (slots : ℕ) → Allows {S = Unit {0}} Kept slots 0 (Roll rows (Some p), []) 0 (λ n. n) (λ _ w. LearnedPass (Roll rows (Some p)) w.0 × (w.1 ≡ []))
+pub learns : (rows : List Row) (p : Lent) (slots : ℕ)
+    → Allows {S = Unit {0}} Kept slots 0 (Roll rows (Some p), []) 0 (λ n. n) (λ _ w. LearnedPass (Roll rows (Some p)) w.0 × (w.1 ≡ []))
 learns rows p slots s h homes at range =
     let f = others_kept s.words s.views rows (Some p) at h in
     let k = f.1 in
@@ -97,7 +102,8 @@ learns rows p slots s h homes at range =
           word = ap (λ (ws : List ℕ). slice_set ws 0 (slice_index ws 0)) k.word;
           views_are = ap (λ (vs : List View). slice_set vs 0 (Roll now None)) k.views_are;
           one_roll = k.one_roll;
-          of_rows = all_both (IsOfRow rows) (Other p) (IsOfRow now) (passes f.0) (λ q. row_stays rows p.lane (home_row p.numbers) q mine.0) k.of_rows.1 k.apart.0;
+          of_rows =
+              all_both (IsOfRow rows) (Other p) (IsOfRow now) (passes f.0) (λ q. row_stays rows p.lane (home_row p.numbers) q mine.0) k.of_rows.1 k.apart.0;
           apart = k.apart.1;
         },
       ),

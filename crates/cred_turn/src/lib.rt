@@ -1,5 +1,8 @@
-//! The passes of the lanes. A roll keeps a row of numbers for each lane, and lends each row as a
-//! pass. A pass that comes back has the numbers that its row has: nothing is compared when it does.
+//! The rows of the lanes' numbers, lent as passes, and their rule. Read it as part of
+//! `cred_kernel`.
+//!
+//! A roll keeps a row of numbers for each lane, and lends each row as a pass. A pass that comes
+//! back has the numbers that its row has: nothing is compared when it does.
 #![tactic(auto)]
 
 pub mod laws;

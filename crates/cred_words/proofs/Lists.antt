@@ -1,5 +1,6 @@
--- Lists, tokens that are out, entries, and words by slot.
-use Rattle.std.proofs.Common.{◌≡◌, ◌≢◌, ℕ, zero, suc, ◌+◌, ◌*◌, ◌/◌, ◌<◌, ◌⊎◌, inl, inr, ⊎_elim, List, [], ◌∷◌, ◌++◌, length, set, Some, Bool, true, false, true≢false, refl, sym, ap, ◌∙◌, subst, arith}
+-- Lists, tokens that are out, loans, and words by slot.
+use Rattle.std.proofs.Common.{◌≡◌, ◌≢◌, ℕ, zero, suc, ◌+◌, ◌*◌, ◌/◌, ◌<◌, ◌⊎◌, inl, inr, ⊎_elim, List, [], ◌∷◌, ◌++◌, length, set, Some, Bool, true, false}
+use Rattle.std.proofs.Common.{true≢false, refl, sym, ap, ◌∙◌, subst, arith}
 use Rattle.std.specs.Prelude.{slice_get, slice_index, ◌==◌, if◌then◌else◌}
 use Rattle.std.specs.List.{AllByRecursion}
 use Rattle.std.proofs.lemmas.Option.{same_Some}
@@ -98,7 +99,8 @@ spent_all P (Lent q ∷ vs) (suc j) h = (h.0, spent_all P vs j h.1)
 spent_all P (Spent ∷ vs) zero h = h
 spent_all P (Spent ∷ vs) (suc j) h = spent_all P vs j h
 
-pub spent_own : (vs : List View) (j : ℕ) (t : Token) → get_elem? vs j ≡ some (Lent t) → OwnTickets (tokens_out_of vs) → OwnTickets (t ∷ tokens_out_of (set vs j Spent))
+pub spent_own : (vs : List View) (j : ℕ) (t : Token) → get_elem? vs j ≡ some (Lent t) → OwnTickets (tokens_out_of vs)
+    → OwnTickets (t ∷ tokens_out_of (set vs j Spent))
 spent_own [] j t e h = absurd (cc)
 spent_own (Master d ∷ vs) zero t e h = absurd (cc)
 spent_own (Master d ∷ vs) (suc j) t e h = spent_own vs j t e h
@@ -111,7 +113,8 @@ spent_own (Spent ∷ vs) zero t e h = absurd (cc)
 spent_own (Spent ∷ vs) (suc j) t e h = spent_own vs j t e h
 
 -- the token at j is exchanged
-pub swap_all : (P Q : Token → Type 0) (vs : List View) (j : ℕ) (t u : Token) → get_elem? vs j ≡ some (Lent t) → OwnTickets (tokens_out_of vs) → ((q : Token) → q.ticket ≢ t.ticket → P q → Q q) → Q u → AllByRecursion P (tokens_out_of vs) → AllByRecursion Q (tokens_out_of (set vs j (Lent u)))
+pub swap_all : (P Q : Token → Type 0) (vs : List View) (j : ℕ) (t u : Token) → get_elem? vs j ≡ some (Lent t) → OwnTickets (tokens_out_of vs)
+    → ((q : Token) → q.ticket ≢ t.ticket → P q → Q q) → Q u → AllByRecursion P (tokens_out_of vs) → AllByRecursion Q (tokens_out_of (set vs j (Lent u)))
 swap_all P Q [] j t u e o f here h = absurd (cc)
 swap_all P Q (Master d ∷ vs) zero t u e o f here h = absurd (cc)
 swap_all P Q (Master d ∷ vs) (suc j) t u e o f here h = swap_all P Q vs j t u e o f here h
@@ -124,7 +127,8 @@ swap_all P Q (Lent q ∷ vs) (suc j) t u e o f here h =
 swap_all P Q (Spent ∷ vs) zero t u e o f here h = absurd (cc)
 swap_all P Q (Spent ∷ vs) (suc j) t u e o f here h = swap_all P Q vs j t u e o f here h
 
-pub swap_own : (vs : List View) (j : ℕ) (t u : Token) → get_elem? vs j ≡ some (Lent t) → u.ticket ≡ t.ticket → OwnTickets (tokens_out_of vs) → OwnTickets (tokens_out_of (set vs j (Lent u)))
+pub swap_own : (vs : List View) (j : ℕ) (t u : Token) → get_elem? vs j ≡ some (Lent t) → u.ticket ≡ t.ticket → OwnTickets (tokens_out_of vs)
+    → OwnTickets (tokens_out_of (set vs j (Lent u)))
 swap_own [] j t u e s o = absurd (cc)
 swap_own (Master d ∷ vs) zero t u e s o = absurd (cc)
 swap_own (Master d ∷ vs) (suc j) t u e s o = swap_own vs j t u e s o
@@ -151,7 +155,8 @@ pub apart_of : (es : List Token) (x y : Token) → AllApart es → Has es x → 
 apart_of [] x y a m n ne = absurd m
 apart_of (e ∷ es) x y a m n ne =
     ⊎_elim
-    (λ (p : e ≡ x). ⊎_elim (λ (q : e ≡ y). absurd (ne (ap (λ (z : Token). z.ticket) (sym q ∙ p)))) (λ q. subst (λ z. Apart z y) p (has_all (Apart e) es y a.0 q)) n)
+    (λ (p : e ≡ x). ⊎_elim (λ (q : e ≡ y). absurd (ne (ap (λ (z : Token). z.ticket) (sym q ∙ p))))
+    (λ q. subst (λ z. Apart z y) p (has_all (Apart e) es y a.0 q)) n)
     (λ p. ⊎_elim (λ (q : e ≡ y). subst (λ z. Apart x z) q (apart_sym e x (has_all (Apart e) es x a.0 p))) (λ q. apart_of es x y a.1 p q ne) n)
     m
 
@@ -160,7 +165,8 @@ same_ticket [] x y a m n s = absurd m
 same_ticket (e ∷ es) x y a m n s =
     ⊎_elim
     (λ (p : e ≡ x). ⊎_elim (λ (q : e ≡ y). sym p ∙ q) (λ q. absurd ((has_all (Apart e) es y a.0 q).tickets (s ∙ ap (λ (z : Token). z.ticket) (sym p)))) n)
-    (λ p. ⊎_elim (λ (q : e ≡ y). absurd ((has_all (Apart e) es x a.0 p).tickets (sym s ∙ ap (λ (z : Token). z.ticket) (sym q)))) (λ q. same_ticket es x y a.1 p q s) n)
+    (λ p. ⊎_elim (λ (q : e ≡ y). absurd ((has_all (Apart e) es x a.0 p).tickets (sym s ∙ ap (λ (z : Token). z.ticket) (sym q))))
+    (λ q. same_ticket es x y a.1 p q s) n)
     m
 
 pick : {A : Type 0} (P : A → Type 0) (b : Bool) (x y : A) → (b ≡ true → P x) → (b ≡ false → P y) → P (if b then x else y)
@@ -176,44 +182,52 @@ without_all P k (e ∷ es) h = pick (AllByRecursion P) (e.ticket == k) es (e ∷
 
 pub without_apart : (k : ℕ) (es : List Token) → AllApart es → AllApart (without_ticket k es)
 without_apart k [] h = tt
-without_apart k (e ∷ es) h = pick AllApart (e.ticket == k) es (e ∷ without_ticket k es) (λ _. h.1) (λ _. (without_all (Apart e) k es h.0, without_apart k es h.1))
+without_apart k (e ∷ es) h =
+    pick AllApart (e.ticket == k) es (e ∷ without_ticket k es) (λ _. h.1) (λ _. (without_all (Apart e) k es h.0, without_apart k es h.1))
 
 pub has_without : (k : ℕ) (es : List Token) (x : Token) → Has es x → x.ticket ≢ k → Has (without_ticket k es) x
 has_without k [] x m n = m
 has_without k (e ∷ es) x m n =
     ⊎_elim
-    (λ (p : e ≡ x). pick (λ l. Has l x) (e.ticket == k) es (e ∷ without_ticket k es) (λ b. absurd (n (ap (λ (z : Token). z.ticket) (sym p) ∙ eqb-true e.ticket k b))) (λ _. inl p))
+    (λ (p : e ≡ x). pick (λ l. Has l x) (e.ticket == k) es (e ∷ without_ticket k es)
+    (λ b. absurd (n (ap (λ (z : Token). z.ticket) (sym p) ∙ eqb-true e.ticket k b))) (λ _. inl p))
     (λ p. pick (λ l. Has l x) (e.ticket == k) es (e ∷ without_ticket k es) (λ _. p) (λ _. inr (has_without k es x p n)))
     m
 
--- an entry is what its ticket strikes out
+-- a loan is what its ticket strikes out
 pub without-taken : (es : List Token) (x : Token) → AllApart es → Has es x → IsTaken es x (without_ticket x.ticket es)
 without-taken [] x a m = absurd m
 without-taken (e ∷ es) x a m =
     ⊎_elim
-    (λ (p : e ≡ x). pick (λ l. IsTaken (e ∷ es) x l) (e.ticket == x.ticket) es (e ∷ without_ticket x.ticket es) (λ _. ([], es, ap (λ z. z ∷ es) p, refl)) (λ b. absurd (differs e.ticket x.ticket b (ap (λ (z : Token). z.ticket) p))))
+    (λ (p : e ≡ x). pick (λ l. IsTaken (e ∷ es) x l) (e.ticket == x.ticket) es (e ∷ without_ticket x.ticket es) (λ _. ([], es, ap (λ z. z ∷ es) p, refl))
+    (λ b. absurd (differs e.ticket x.ticket b (ap (λ (z : Token). z.ticket) p))))
     (λ p.
     let ex = has_all (Apart e) es x a.0 p in
     let r = without-taken es x a.1 p in
-    pick (λ l. IsTaken (e ∷ es) x l) (e.ticket == x.ticket) es (e ∷ without_ticket x.ticket es) (λ b. absurd (ex.tickets (sym (eqb-true e.ticket x.ticket b)))) (λ _. (e ∷ r.0, r.1, ap (λ l. e ∷ l) r.2, ap (λ l. e ∷ l) r.3)))
+    pick (λ l. IsTaken (e ∷ es) x l) (e.ticket == x.ticket) es (e ∷ without_ticket x.ticket es) (λ b. absurd (ex.tickets (sym (eqb-true e.ticket x.ticket b))))
+    (λ _. (e ∷ r.0, r.1, ap (λ l. e ∷ l) r.2, ap (λ l. e ∷ l) r.3)))
     m
 
--- all other entries are apart from one that is taken away
+-- all other loans are apart from one that is taken away
 pub without_others : (es : List Token) (x : Token) → AllApart es → Has es x → AllByRecursion (Apart x) (without_ticket x.ticket es)
 without_others [] x a m = tt
 without_others (e ∷ es) x a m =
     ⊎_elim
-    (λ (p : e ≡ x). pick (AllByRecursion (Apart x)) (e.ticket == x.ticket) es (e ∷ without_ticket x.ticket es) (λ _. subst (λ z. AllByRecursion (Apart z) es) p a.0) (λ b. absurd (differs e.ticket x.ticket b (ap (λ (z : Token). z.ticket) p))))
+    (λ (p : e ≡ x). pick (AllByRecursion (Apart x)) (e.ticket == x.ticket) es (e ∷ without_ticket x.ticket es)
+    (λ _. subst (λ z. AllByRecursion (Apart z) es) p a.0) (λ b. absurd (differs e.ticket x.ticket b (ap (λ (z : Token). z.ticket) p))))
     (λ p.
     let ex = has_all (Apart e) es x a.0 p in
-    pick (AllByRecursion (Apart x)) (e.ticket == x.ticket) es (e ∷ without_ticket x.ticket es) (λ b. absurd (ex.tickets (sym (eqb-true e.ticket x.ticket b)))) (λ _. (apart_sym e x ex, without_others es x a.1 p)))
+    pick (AllByRecursion (Apart x)) (e.ticket == x.ticket) es (e ∷ without_ticket x.ticket es) (λ b. absurd (ex.tickets (sym (eqb-true e.ticket x.ticket b))))
+    (λ _. (apart_sym e x ex, without_others es x a.1 p)))
     m
 
 -- what holds of the others, and of the one that is taken away, holds of all
-pub all_with : (P : Token → Type 0) (k : ℕ) (es : List Token) → ((e : Token) → Has es e → e.ticket ≡ k → P e) → AllByRecursion P (without_ticket k es) → AllByRecursion P es
+pub all_with : (P : Token → Type 0) (k : ℕ) (es : List Token) → ((e : Token) → Has es e → e.ticket ≡ k → P e) → AllByRecursion P (without_ticket k es)
+    → AllByRecursion P es
 all_with P k [] f h = tt
 all_with P k (e ∷ es) f h =
-    pick (λ l. AllByRecursion P l → AllByRecursion P (e ∷ es)) (e.ticket == k) es (e ∷ without_ticket k es) (λ b r. (f e (inl refl) (eqb-true e.ticket k b), r)) (λ _ r. (r.0, all_with P k es (λ x m. f x (inr m)) r.1)) h
+    pick (λ l. AllByRecursion P l → AllByRecursion P (e ∷ es)) (e.ticket == k) es (e ∷ without_ticket k es) (λ b r. (f e (inl refl) (eqb-true e.ticket k b), r))
+    (λ _ r. (r.0, all_with P k es (λ x m. f x (inr m)) r.1)) h
 
 -- Words by slot
 
@@ -236,7 +250,8 @@ stands_other words s t i n ws apart small h =
       each = λ j b. get_or-set_other words (word_place s i) (word_place t j) n 0 (λ e. apart (sym (same_slot t s j i b small e))) ∙ h.each j b;
     }
 
-pub stands_here : (words : List ℕ) (s i n : ℕ) (ws : List ℕ) → length words ≡ total → i < width → WordsStand words s ws → WordsStand (set words (word_place s i) n) s (set ws i n)
+pub stands_here : (words : List ℕ) (s i n : ℕ) (ws : List ℕ) → length words ≡ total → i < width → WordsStand words s ws
+    → WordsStand (set words (word_place s i) n) s (set ws i n)
 stands_here words s i n ws size small h =
     let far = place_within s i h.within small in
     let wide = h.wide in
@@ -248,5 +263,6 @@ stands_here words s i n ws size small h =
           (λ (e : j ≡ i).
           let P : ℕ → Type 0 = λ k. slice_index (set words (word_place s i) n) (word_place s k) ≡ slice_index (set ws i n) k in
           subst P (sym e) (get_or-set_same words (word_place s i) n 0 (omega arith) ∙ sym (get_or-set_same ws i n 0 (omega arith))))
-          (λ (ne : j ≢ i). get_or-set_other words (word_place s i) (word_place s j) n 0 (λ e. ne (same_word s j i b small e)) ∙ h.each j b ∙ sym (get_or-set_other ws i j n 0 ne));
+          (λ (ne : j ≢ i). get_or-set_other words (word_place s i) (word_place s j) n 0 (λ e. ne (same_word s j i b small e)) ∙ h.each j b
+          ∙ sym (get_or-set_other ws i j n 0 ne));
     }

@@ -26,10 +26,10 @@ AreDistinct ts =
 pub record OneMaster (views : List View) (d : Ledger) : Type 0 where
   pub is_there : slice_get views 0 ≡ Some (Master d)
   pub no_other : (i : ℕ) (e : Ledger) → slice_get views i ≡ Some (Master e) → (i ≡ 0) × (e ≡ d)
-  pub distinct : AreDistinct d.entries
-  pub below : (e : Token) → Has d.entries e → e.ticket < d.next
+  pub distinct : AreDistinct d.loans
+  pub below : (e : Token) → Has d.loans e → e.ticket < d.next
 
--- the entry has the ticket, label, slot and kind of the token, and a hold's its words too
+-- the loan has the ticket, label, slot and kind of the token, and a hold's its words too
 pub record Agrees (t e : Token) : Type 0 where
   pub ticket : e.ticket ≡ t.ticket
   pub label : e.label ≡ t.label
@@ -37,32 +37,32 @@ pub record Agrees (t e : Token) : Type 0 where
   pub kind : e.writes ≡ t.writes
   pub words : t.writes ≡ false → e.words ≡ t.words
 
--- 2. each token agrees with exactly one entry, and no two tokens have one ticket
-pub record HaveEntries (views : List View) (d : Ledger) : Type 0 where
+-- 2. each token agrees with exactly one loan, and no two tokens have one ticket
+pub record HaveLoans (views : List View) (d : Ledger) : Type 0 where
   pub has :
-      (t : Token) → Has (tokens_of d views) t → (e : Token) × Has d.entries e × Agrees t e
+      (t : Token) → Has (tokens_of d views) t → (e : Token) × Has d.loans e × Agrees t e
   pub one :
-      (t e f : Token) → Has d.entries e → Has d.entries f → Agrees t e → Agrees t f → e ≡ f
+      (t e f : Token) → Has d.loans e → Has d.loans f → Agrees t e → Agrees t f → e ≡ f
   pub distinct : AreDistinct (tokens_of d views)
 
--- 3. a slot with a writer's entry has no second entry and is not sealed; a slot with a hold's entry
+-- 3. a slot with a writer's loan has no second loan and is not sealed; a slot with a hold's loan
 -- is sealed, and the entry's words are the master's of that slot
 pub record FitSlots (d : Ledger) : Type 0 where
   pub alone :
-      (e f : Token) → Has d.entries e → Has d.entries f → e.writes ≡ true → f.slot ≡ e.slot →
+      (e f : Token) → Has d.loans e → Has d.loans f → e.writes ≡ true → f.slot ≡ e.slot →
       f ≡ e
   pub unsealed :
-      (e : Token) → Has d.entries e → e.writes ≡ true →
+      (e : Token) → Has d.loans e → e.writes ≡ true →
       (x : Slot) × (slice_get d.slots e.slot ≡ Some x) × (x.sealed ≡ false)
   pub sealed :
-      (e : Token) → Has d.entries e → e.writes ≡ false →
+      (e : Token) → Has d.loans e → e.writes ≡ false →
       (x : Slot) × (slice_get d.slots e.slot ≡ Some x) × (x.sealed ≡ true) × (e.words ≡ x.words)
 
 -- no writer is out on the slot
 abbrev pub IsUnwritten : Ledger → ℕ → Type 0
-IsUnwritten d s = (e : Token) → Has d.entries e → e.writes ≡ true → e.slot ≢ s
+IsUnwritten d s = (e : Token) → Has d.loans e → e.writes ≡ true → e.slot ≢ s
 
--- 4. a slot without a writer's entry has the master's words
+-- 4. a slot without a writer's loan has the master's words
 abbrev pub MasterStands : List ℕ → Ledger → Type 0
 MasterStands words d =
     (s : ℕ) (x : Slot) → slice_get d.slots s ≡ Some x → IsUnwritten d s → WordsStand words s x.words
@@ -81,7 +81,7 @@ SealedAreCredentials words d =
 pub record HasPoints (words : List ℕ) (views : List View) (d : Ledger) : Type 0 where
   pub guide : slice_index words 0 ≡ 0
   pub one_master : OneMaster views d
-  pub have_entries : HaveEntries views d
+  pub have_loans : HaveLoans views d
   pub fit_slots : FitSlots d
   pub master_stands : MasterStands words d
   pub tokens_stand : TokensStand words views d

@@ -22,4 +22,4 @@ IsSealedSlot d slot = (x : Slot) × (slice_get d.slots slot ≡ Some x) × (x.se
 
 -- no token is out on the slot
 abbrev pub NoTokenIsOn : Ledger → ℕ → Type 0
-NoTokenIsOn d slot = AllByRecursion (λ e. e.slot ≢ slot) d.entries
+NoTokenIsOn d slot = AllByRecursion (λ e. e.slot ≢ slot) d.loans

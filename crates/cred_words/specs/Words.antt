@@ -18,10 +18,10 @@ slot_of ws sealed = record { words = ws; sealed = sealed }
 
 -- a ledger of these parts
 abbrev pub ledger_with : List Slot → ℕ → List Token → Option Token → Ledger
-ledger_with slots next entries kept = record {
+ledger_with slots next loans kept = record {
   slots = slots;
   next = next;
-  entries = entries;
+  loans = loans;
   kept = kept;
 }
 
@@ -35,9 +35,9 @@ token ticket label slot writes ws = record {
   words = ws;
 }
 
--- the entry of a token: a hold's has its words, a writer's none
-abbrev pub as_entry : Token → Token
-as_entry t = token t.ticket t.label t.slot t.writes (if t.writes then [] else t.words)
+-- the loan of a token: a hold's has its words, a writer's none
+abbrev pub as_loan : Token → Token
+as_loan t = token t.ticket t.label t.slot t.writes (if t.writes then [] else t.words)
 
 -- the token with these words
 abbrev pub put_words : Token → List ℕ → Token
@@ -61,7 +61,7 @@ IsNoMaster (Master d) = ⊥
 IsNoMaster (Lent t) = ⊤
 IsNoMaster Spent = ⊤
 
--- two entries have different tickets, and a writer's slot is its own
+-- two loans have different tickets, and a writer's slot is its own
 pub record Apart (e f : Token) : Type 0 where
   pub tickets : f.ticket ≢ e.ticket
   pub writer : e.writes ≡ true → f.slot ≢ e.slot
@@ -88,34 +88,34 @@ FitsAs true slots e = (ws : List ℕ) × (slice_get slots e.slot ≡ Some (slot_
 FitsAs false slots e = slice_get slots e.slot ≡ Some (slot_of e.words true)
 
 -- a writer's slot isn't sealed; a hold's is, with the entry's words
-abbrev pub EntryFits : List Slot → Token → Type 0
-EntryFits slots e = FitsAs e.writes slots e
+abbrev pub LoanFits : List Slot → Token → Type 0
+LoanFits slots e = FitsAs e.writes slots e
 
--- the entry is no writer's on the slot
+-- the loan is no writer's on the slot
 abbrev pub NoWriterOn : ℕ → Token → Type 0
 NoWriterOn slot e = e.writes ≡ true → e.slot ≢ slot
 
 -- the rule, with the master's parts and the other views. The guide is 0; the master's view is the
 -- first, and no other is a master's; tickets are below the next one; each token that is out has
--- its entry, and a ticket of its own; entries are apart, and fit their slots; a slot with no writer
+-- its loan, and a ticket of its own; loans are apart, and fit their slots; a slot with no writer
 -- has the master's words, and that of a token the token's; a sealed slot's words are a credential's
 pub record KeepsWords
     (words : List ℕ) (views : List View)
-    (slots : List Slot) (next : ℕ) (entries : List Token) (kept : Option Token)
+    (slots : List Slot) (next : ℕ) (loans : List Token) (kept : Option Token)
     (others : List View) : Type 0 where
   pub guide : slice_index words 0 ≡ 0
   pub size : length words ≡ total
   pub slot_count : length slots ≡ count
-  pub views_are : views ≡ Master (ledger_with slots next entries kept) ∷ others
+  pub views_are : views ≡ Master (ledger_with slots next loans kept) ∷ others
   pub one_master : AllByRecursion IsNoMaster others
-  pub below_next : AllByRecursion (λ e. e.ticket < next) entries
-  pub has_entry : AllByRecursion (λ t. Has entries (as_entry t))
+  pub below_next : AllByRecursion (λ e. e.ticket < next) loans
+  pub has_loan : AllByRecursion (λ t. Has loans (as_loan t))
       (tokens_out_of (token_aside kept ∷ others))
   pub own_tickets : OwnTickets (tokens_out_of (token_aside kept ∷ others))
-  pub apart : AllApart entries
-  pub fit : AllByRecursion (EntryFits slots) entries
+  pub apart : AllApart loans
+  pub fit : AllByRecursion (LoanFits slots) loans
   pub masters :
-      (s : ℕ) (x : Slot) → slice_get slots s ≡ Some x → AllByRecursion (NoWriterOn s) entries →
+      (s : ℕ) (x : Slot) → slice_get slots s ≡ Some x → AllByRecursion (NoWriterOn s) loans →
       WordsStand words s x.words
   pub stand : AllByRecursion (λ t. WordsStand words t.slot t.words)
       (tokens_out_of (token_aside kept ∷ others))
@@ -125,8 +125,8 @@ pub record KeepsWords
 -- the rule: there are a master's parts and other views with which it holds
 abbrev pub WordRuleHolds : List ℕ → List View → Type 0
 WordRuleHolds words views =
-    (slots : List Slot) × (next : ℕ) × (entries : List Token) × (kept : Option Token) ×
-    (others : List View) × KeepsWords words views slots next entries kept others
+    (slots : List Slot) × (next : ℕ) × (loans : List Token) × (kept : Option Token) ×
+    (others : List View) × KeepsWords words views slots next loans kept others
 
 -- ---- the steps
 
@@ -169,7 +169,7 @@ slots_after slots slot false = slots
 abbrev pub after_lend : Ledger → ℕ → ℕ → Bool → Ledger
 after_lend d label slot writes =
     ledger_with (slots_after d.slots slot writes) (d.next + 1)
-    (as_entry (lent_token d label slot writes) ∷ d.entries) d.kept
+    (as_loan (lent_token d label slot writes) ∷ d.loans) d.kept
 
 -- the views after a loan: the master's, and the new one
 abbrev pub after_lending_token : ℕ → ℕ → Bool → View → View
@@ -188,11 +188,11 @@ token_in_view Spent = None
 
 -- the master's view after a return: the token is kept aside
 abbrev pub after_return_of_token : View → View → View
-after_return_of_token (Master d) w = Master (ledger_with d.slots d.next d.entries (token_in_view w))
+after_return_of_token (Master d) w = Master (ledger_with d.slots d.next d.loans (token_in_view w))
 after_return_of_token (Lent t) w = Lent t
 after_return_of_token Spent w = Spent
 
--- the entries less the first one with the ticket
+-- the loans less the first one with the ticket
 abbrev pub without_ticket : ℕ → List Token → List Token
 without_ticket ticket [] = []
 without_ticket ticket (e ∷ es) = if e.ticket == ticket then es else (e ∷ without_ticket ticket es)
@@ -207,14 +207,14 @@ slots_back slots t put false = slots
 -- the ledger after that load
 abbrev pub after_back : Ledger → Token → Bool → Ledger
 after_back d t put =
-    ledger_with (slots_back d.slots t put t.writes) d.next (without_ticket t.ticket d.entries) None
+    ledger_with (slots_back d.slots t put t.writes) d.next (without_ticket t.ticket d.loans) None
 
 -- what the load after a return reports
 abbrev pub LearnedAs : Ledger → Bool → Option Token → View → Type 0
 LearnedAs d put None w = w ≡ Master d
 LearnedAs d put (Some t) w =
-    IsTaken d.entries (as_entry t) (without_ticket t.ticket d.entries)
-    × EntryFits d.slots (as_entry t) ×
+    IsTaken d.loans (as_loan t) (without_ticket t.ticket d.loans)
+    × LoanFits d.slots (as_loan t) ×
     (w ≡ Master (after_back d t put))
 
 abbrev pub LearnedToken : Bool → View → View → Type 0

@@ -5,7 +5,7 @@ ghost use Rattle.cred_words.specs.Lists.{IsTaken};
 ghost use Rattle.cred_words.specs.Size.{width, count, total, word_place};
 ghost use Rattle.cred_words.specs.Words.{ledger_with, ledger_of, first_master, lent_token};
 ghost use Rattle.cred_words.specs.Words.{after_lend};
-ghost use Rattle.cred_words.specs.Words.{after_back, put_words, EntryFits, as_entry};
+ghost use Rattle.cred_words.specs.Words.{after_back, put_words, LoanFits, as_loan};
 ghost use Rattle.cred_words.specs.Words.{without_ticket};
 ghost use Rattle.cred_words.specs.Words.{token_of};
 ghost use Rattle.cred_words.specs.declared.view.View.TheVariants.{Lent};
@@ -149,7 +149,7 @@ impl Cells {
 }
 
 impl Master {
-    /// Lends a hold on a sealed slot. The new token and its entry have the slot's words.
+    /// Lends a hold on a sealed slot. The new token and its loan have the slot's words.
     pub fn lend_hold(&mut self, cells: &Cells, label: u32, slot: u32) -> Hold
         requires own { self.old.id ≡ cells.now }
         requires sealed { IsSealedSlot self.old.ledger slot }
@@ -210,26 +210,26 @@ impl Master {
         }
     }
 
-    /// Returns a hold, which the master keeps aside. `load_after_return` strikes out its entry.
+    /// Returns a hold, which the master keeps aside. `load_after_return` strikes out its loan.
     pub fn return_hold(&mut self, cells: &Cells, hold: Hold)
         requires own { (self.old.id ≡ cells.now) × (hold.id ≡ cells.now) }
         requires empty { self.old.ledger.kept ≡ None }
         ensures { (self.new.id ≡ self.old.id)
             × (self.new.ledger ≡ ledger_with self.old.ledger.slots self.old.ledger.next
-            self.old.ledger.entries (Some hold.token)) }
+            self.old.ledger.loans (Some hold.token)) }
     {
         let Hold { seat } = hold;
         let shared = &cells.table.shared;
         shared.join_seat::<Returns>(&mut self.seat, seat);
     }
 
-    /// Returns a writer, which the master keeps aside. `load_after_return` strikes out its entry.
+    /// Returns a writer, which the master keeps aside. `load_after_return` strikes out its loan.
     pub fn return_writer(&mut self, cells: &Cells, writer: Writer)
         requires own { (self.old.id ≡ cells.now) × (writer.id ≡ cells.now) }
         requires empty { self.old.ledger.kept ≡ None }
         ensures { (self.new.id ≡ self.old.id)
             × (self.new.ledger ≡ ledger_with self.old.ledger.slots self.old.ledger.next
-            self.old.ledger.entries (Some writer.token)) }
+            self.old.ledger.loans (Some writer.token)) }
     {
         let Writer { seat } = writer;
         let shared = &cells.table.shared;
@@ -238,16 +238,16 @@ impl Master {
 }
 
 impl Master {
-    /// The load after a return: takes away the token that is kept aside, and its entry. After a
+    /// The load after a return: takes away the token that is kept aside, and its loan. After a
     /// writer the slot has the writer's words, and is sealed where `put` is true and they are a
     /// credential's.
     pub fn load_after_return(&mut self, cells: &Cells, put: bool)
         requires own { self.old.id ≡ cells.now }
         requires returned { IsSome self.old.ledger.kept }
-        ensures entry { IfSome self.old.ledger.kept (λ t.
-            IsTaken self.old.ledger.entries (as_entry t)
-            (without_ticket t.ticket self.old.ledger.entries)
-            × EntryFits self.old.ledger.slots (as_entry t)) }
+        ensures taken { IfSome self.old.ledger.kept (λ t.
+            IsTaken self.old.ledger.loans (as_loan t)
+            (without_ticket t.ticket self.old.ledger.loans)
+            × LoanFits self.old.ledger.slots (as_loan t)) }
         ensures master { (self.new.id ≡ self.old.id)
             × IfSome self.old.ledger.kept
             (λ t. self.new.ledger ≡ after_back self.old.ledger t put) }
@@ -260,10 +260,10 @@ impl Master {
         requires order { put ≡ O.put }
         requires own { self.old.id ≡ cells.now }
         requires returned { IsSome self.old.ledger.kept }
-        ensures entry { IfSome self.old.ledger.kept (λ t.
-            IsTaken self.old.ledger.entries (as_entry t)
-            (without_ticket t.ticket self.old.ledger.entries)
-            × EntryFits self.old.ledger.slots (as_entry t)) }
+        ensures taken { IfSome self.old.ledger.kept (λ t.
+            IsTaken self.old.ledger.loans (as_loan t)
+            (without_ticket t.ticket self.old.ledger.loans)
+            × LoanFits self.old.ledger.slots (as_loan t)) }
         ensures master { (self.new.id ≡ self.old.id)
             × IfSome self.old.ledger.kept
             (λ t. self.new.ledger ≡ after_back self.old.ledger t O.put) }

@@ -72,7 +72,7 @@ impl Join<View> for Returns {
     ghost spent = { Spent };
 }
 
-/// Strikes out the entry of the view kept aside.
+/// Strikes out the loan of the view kept aside.
 pub struct Learns<O>(PhantomData<O>);
 
 impl<O: Order> Play<(), View> for Learns<O> {

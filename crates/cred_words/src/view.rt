@@ -10,7 +10,7 @@ pub struct Slot {
     pub sealed: bool,
 }
 
-/// A token that is lent, or its entry in the master's ledger. The entry of a writer has no words.
+/// A token that is lent, or its loan in the master's ledger. The loan of a writer has no words.
 pub struct Token {
     /// The number of the loan. In a clause it has no greatest value.
     pub ticket: u64,
@@ -31,7 +31,7 @@ pub struct Ledger {
     /// The ticket of the next loan.
     pub next: u64,
     /// What is lent, the newest first.
-    pub entries: LinkedList<Token>,
+    pub loans: LinkedList<Token>,
     /// The token that came back and is not yet struck out.
     pub kept: Option<Token>,
 }

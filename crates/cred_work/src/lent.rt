@@ -8,8 +8,8 @@ ghost use Rattle.cred_work.specs.Decisions.{PutStays};
 use crate::changes::alter_boxed;
 use crate::made::BoxedMade;
 use crate::pause::Pause;
-use crate::questions::{decide_paused, may_open_paused};
-use crate::signals::decide_signal_paused;
+use crate::questions::{decide, may_open};
+use crate::signals::decide_signal;
 use cred_event::{Answer, Change, Event, Query};
 use cred_hold::{Cells, Hold, Writer};
 use cred_ids::{Id, NoMemory};
@@ -124,7 +124,7 @@ impl Lent {
     {
         match self {
             Lent::Asking { hold, query, told } => {
-                *told = Some(decide_paused(alloc, cells, pause, hold, *query, file)?);
+                *told = Some(decide(alloc, cells, pause, hold, *query, file)?);
             }
             Lent::Opening {
                 hold,
@@ -132,7 +132,7 @@ impl Lent {
                 may,
                 ..
             } => {
-                *may = Some(may_open_paused(alloc, cells, pause, hold, file, *want)?);
+                *may = Some(may_open(alloc, cells, pause, hold, file, *want)?);
             }
             Lent::Signalling {
                 hold,
@@ -140,7 +140,7 @@ impl Lent {
                 may,
                 ..
             } => {
-                *may = Some(decide_signal_paused(cells, pause, hold, target));
+                *may = Some(decide_signal(cells, pause, hold, target));
             }
             Lent::Altering {
                 base,

@@ -1,11 +1,12 @@
-//! Decisions on credentials that are lent: what a question is answered, whether a task may signal
-//! another, what a change makes, and so what an event that waits for one of these is decided.
-//! Whoever has the tokens decides, at whatever moments other tokens read and put, and waits for
-//! nobody.
+//! Decisions on credentials that are lent, and works: events that are decided outside of the lock.
 //!
-//! Works: events that wait for a decision on lent credentials, each with all that the decision
-//! needs, so that it can be made where no lock is held. A caller may stop a work's decision in its
-//! midst, once the words have been read.
+//! A decision is what a question is answered, whether a task may signal another, what a change
+//! makes. Whoever has the tokens decides, at whatever moments other tokens read and put, and waits
+//! for nobody.
+//!
+//! A work is an event that waits for a decision on lent credentials, with all that the decision
+//! needs, so that it can be made where no lock is held. A caller may stop it in its midst, once the
+//! words have been read.
 #![tactic(auto)]
 
 mod changes;

@@ -22,8 +22,8 @@ impl Model for BoxedMade {
     ghost view = { λ b. b.made.value };
 }
 
-/// Written out, so that it is proved here alone: of a derived one, each crate above that lets go of
-/// it proves all parts anew.
+/// Written out, so that it is proved here alone: of a derived one, each crate above that drops it
+/// proves all parts anew.
 impl Drop for BoxedMade {
     fn drop(self) {
         let BoxedMade { made } = self;
@@ -52,7 +52,7 @@ impl BoxedMade {
         &self.made.cred
     }
 
-    /// What the change makes. Its memory is let go of.
+    /// What the change makes. Its memory is freed.
     pub fn into_made(self) -> Made
         ensures { result ≡ self }
     {

@@ -6,7 +6,7 @@ ghost use Rattle.cred_rules.specs.Adjust.{read_in};
 ghost use Rattle.cred_model.specs.Answers.{checked, flag, reply};
 ghost use Rattle.cred_work.specs.Questions.{is_on_whole};
 
-use crate::pause::{NoPause, Pause};
+use crate::pause::Pause;
 use cred_access::may_by;
 use cred_caps::{Cap, CapSet};
 use cred_decide::reply;
@@ -18,7 +18,8 @@ use std::alloc::Global;
 
 /// The answer to a question about the credential that is held, as `cred_decide::reply` has it.
 /// `file` is the file that the question names, if it names one. The opening of a file is decided as
-/// its check is. The hold stays as it was. It waits for nobody.
+/// its check is. The hold stays as it was. It waits for nobody but `pause`, which it calls once the
+/// words have been read, before anything is decided by them.
 ///
 /// # Errors
 ///
@@ -26,25 +27,7 @@ use std::alloc::Global;
 /// `specs/Questions.antt` says, and an allocation fails. A question about ids or about capability
 /// sets takes no memory.
 #[inline(always)]
-pub fn decide(
-    alloc: Global,
-    cells: &Cells,
-    hold: &mut Hold,
-    query: Query,
-    file: Option<&FileInfo>,
-) -> Result<Answer, NoMemory>
-    requires own { hold.old.id ≡ cells.now }
-    ensures told { IfOk result (λ answer. answer
-        ≡ reply (option_map (λ file. file.now) file.entry) hold.old.cred query) }
-    ensures memory { OnErr result (is_on_whole query ≡ true) }
-    ensures same { hold.new ≡ hold.old }
-{
-    decide_paused(alloc, cells, &NoPause, hold, query, file)
-}
-
-/// The same, where the decision may be stopped once the words have been read.
-#[inline(always)]
-pub(crate) fn decide_paused<P: Pause>(
+pub fn decide<P: Pause>(
     alloc: Global,
     cells: &Cells,
     pause: &P,
@@ -132,7 +115,7 @@ fn check<P: Pause>(
         ≡ checked hold.old.cred (option_map (λ file. file.now) file.entry) want) }
     ensures same { hold.new ≡ hold.old }
 {
-    if may_open_paused(alloc, cells, pause, hold, file, want)? {
+    if may_open(alloc, cells, pause, hold, file, want)? {
         Ok(Answer::Done)
     } else {
         Ok(Answer::Eacces)
@@ -140,27 +123,9 @@ fn check<P: Pause>(
 }
 
 /// Whether the file may be opened so, by the parts of the credential that this asks of. What is
-/// no file may not.
+/// no file may not. It calls `pause` once they have been read.
 #[inline(always)]
-pub fn may_open(
-    alloc: Global,
-    cells: &Cells,
-    hold: &mut Hold,
-    file: Option<&FileInfo>,
-    want: Want,
-) -> Result<bool, NoMemory>
-    requires own { hold.old.id ≡ cells.now }
-    ensures may { IfOk result (λ may.
-        checked hold.old.cred (option_map (λ file. file.now) file.entry) want
-        ≡ (if may then Done else Eacces)) }
-    ensures same { hold.new ≡ hold.old }
-{
-    may_open_paused(alloc, cells, &NoPause, hold, file, want)
-}
-
-/// The same, where the decision may be stopped once the words have been read.
-#[inline(always)]
-pub(crate) fn may_open_paused<P: Pause>(
+pub fn may_open<P: Pause>(
     alloc: Global,
     cells: &Cells,
     pause: &P,

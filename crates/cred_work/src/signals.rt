@@ -2,29 +2,15 @@
 ghost use Rattle.std.specs.Prelude.{◌≡◌, false};
 ghost use Rattle.cred_rules.specs.Access.{may_signal};
 
-use crate::pause::{NoPause, Pause};
+use crate::pause::Pause;
 use cred_access::may_signal_by;
 use cred_hold::{Cells, Hold, read_caps, read_ids};
 
 /// Whether a task with the credential that `from` holds may send a signal to one of another process
 /// with the credential that `to` holds (kill(2)). Within one process it always may. The holds stay
-/// as they were. It takes no memory and waits for nobody.
-pub fn decide_signal(cells: &Cells, from: &mut Hold, to: &mut Hold) -> bool
-    requires own { (from.old.id ≡ cells.now) × (to.old.id ≡ cells.now) }
-    ensures value { result ≡ may_signal from.old.cred to.old.cred false }
-    ensures same { (from.new ≡ from.old) × (to.new ≡ to.old) }
-{
-    decide_signal_paused(cells, &NoPause, from, to)
-}
-
-/// The same, where the decision may be stopped once the words have been read.
-#[inline(always)]
-pub(crate) fn decide_signal_paused<P: Pause>(
-    cells: &Cells,
-    pause: &P,
-    from: &mut Hold,
-    to: &mut Hold,
-) -> bool
+/// as they were. It takes no memory and waits for nobody but `pause`, which it calls once the words
+/// have been read, before anything is decided by them.
+pub fn decide_signal<P: Pause>(cells: &Cells, pause: &P, from: &mut Hold, to: &mut Hold) -> bool
     requires own { (from.old.id ≡ cells.now) × (to.old.id ≡ cells.now) }
     ensures value { result ≡ may_signal from.old.cred to.old.cred false }
     ensures same { (from.new ≡ from.old) × (to.new ≡ to.old) }

@@ -38,8 +38,8 @@ impl Model for Asked {
     } };
 }
 
-/// Written out, so that it is proved here alone: of a derived one, each crate above that lets go of
-/// it proves all parts anew.
+/// Written out, so that it is proved here alone: of a derived one, each crate above that drops it
+/// proves all parts anew.
 impl Drop for Asked {
     fn drop(self) {
         let Asked { parts } = self;
@@ -76,7 +76,7 @@ impl Asked {
         })
     }
 
-    /// The same for another line, in the memory of this one, whose file and root ids are let go of.
+    /// The same for another line, in the memory of this one, whose file and root ids are dropped.
     /// No memory is taken.
     // No call, since what it takes is large, and would be moved.
     #[inline(always)]

@@ -9,7 +9,7 @@ ghost use Rattle.cred_model.specs.Named.{event_files};
 ghost use Rattle.cred_model.specs.Script.{chain_of};
 ghost use Rattle.cred_model.specs.State.{info_of};
 ghost use Rattle.cred_script.specs.Lines.{line_at};
-ghost use Rattle.cred_cursor.specs.Cursor.{IsOfLine, MovesOnTo};
+ghost use Rattle.cred_course.specs.Cursor.{IsOfLine, MovesOnTo};
 ghost use Rattle.cred_work.specs.Decisions.{undecided, work_event, AreOf};
 ghost use Rattle.cred_work.specs.DecidedWorks.{IsDecided};
 ghost use Rattle.cred_tables.specs.Kept.{AreInPlace};
@@ -25,8 +25,7 @@ ghost use Rattle.cred_book.specs.declared.step.Step.TheVariants.{More};
 use crate::book::Book;
 use crate::outs::copy_file;
 use crate::step::{Step, Unfinished};
-use cred_course::Course;
-use cred_cursor::cursor_after;
+use cred_course::{Course, cursor_after};
 use cred_declared::{chain_of as declared_chain, event_file};
 use cred_event::{Entry, Event};
 use cred_hold::Cells;
@@ -39,7 +38,7 @@ impl Book {
     ///
     /// # Errors
     ///
-    /// Want of memory, with the work, which is still out: the book is as it was.
+    /// Memory ran out: with the work, which is still out. The book is as it was.
     pub fn finish(&mut self, cells: &Cells, lane: u32, work: Work) -> Result<Step, Unfinished>
         requires own { self.old.words.id ≡ cells.now }
         requires stands { BookStands self.old }
@@ -188,7 +187,7 @@ impl Book {
     ///
     /// # Errors
     ///
-    /// Want of memory, with the work: the book is as it was.
+    /// Memory ran out: with the work. The book is as it was.
     fn enter_decided(
         &mut self,
         cells: &Cells,

@@ -29,8 +29,8 @@ fn tokens_have_no_room_for_a_credential(rt: HostRuntime) -> Result<(), Fail> {
 pub(crate) fn seal(cells: &Cells, master: &mut Master, slot: u32, cred: &Cred)
     requires own { master.old.id ≡ cells.now }
     requires within { slot < SLOTS }
-    requires none { master.old.entries ≡ [] }
-    ensures master { (master.new.id ≡ master.old.id) × (master.new.entries ≡ []) }
+    requires none { master.old.loans ≡ [] }
+    ensures master { (master.new.id ≡ master.old.id) × (master.new.loans ≡ []) }
     ensures sealed { slice_get master.new.slots slot ≡ Some (Some cred.now) }
     ensures others { (s : ℕ) → s ≢ slot
         → slice_get master.new.slots s ≡ slice_get master.old.slots s }
@@ -142,9 +142,9 @@ struct Lent {
 /// Lends two holds on slot 0, one on slot 1, and a writer on slot 3.
 fn lend_all(cells: &Cells, master: &mut Master) -> Lent
     requires own { master.old.id ≡ cells.now }
-    requires none { master.old.entries ≡ [] }
+    requires none { master.old.loans ≡ [] }
     requires sealed { IsSealed master.old.slots 0 × IsSealed master.old.slots 1 }
-    ensures master { (master.new.id ≡ cells.now) × (length master.new.entries ≡ 4) }
+    ensures master { (master.new.id ≡ cells.now) × (length master.new.loans ≡ 4) }
     ensures holds { (result.one.id ≡ cells.now) × (result.two.id ≡ cells.now)
         × (result.three.id ≡ cells.now) }
     ensures writer { (result.writer.id ≡ cells.now) × (result.writer.slot ≡ 3) }
@@ -166,8 +166,8 @@ fn return_all(cells: &Cells, master: &mut Master, lent: Lent)
     requires own { master.old.id ≡ cells.now }
     requires tokens { (lent.one.id ≡ cells.now) × (lent.two.id ≡ cells.now)
         × (lent.three.id ≡ cells.now) × (lent.writer.id ≡ cells.now) }
-    requires all { length master.old.entries ≡ 4 }
-    ensures master { (master.new.id ≡ cells.now) × (master.new.entries ≡ []) }
+    requires all { length master.old.loans ≡ 4 }
+    ensures master { (master.new.id ≡ cells.now) × (master.new.loans ≡ []) }
     ensures put { slice_get master.new.slots lent.writer.slot ≡ Some lent.writer.put }
 {
     master.give_back(cells, lent.one);
@@ -239,8 +239,8 @@ fn read_all<R: Threads + Sync>(
 /// Seals the slots 0, 1 and 2.
 fn seal_three(cells: &Cells, master: &mut Master, zero: &Cred, one: &Cred, two: &Cred)
     requires own { master.old.id ≡ cells.now }
-    requires none { master.old.entries ≡ [] }
-    ensures master { (master.new.id ≡ cells.now) × (master.new.entries ≡ []) }
+    requires none { master.old.loans ≡ [] }
+    ensures master { (master.new.id ≡ cells.now) × (master.new.loans ≡ []) }
     ensures sealed { IsSealed master.new.slots 0 × IsSealed master.new.slots 1 }
 {
     seal(cells, master, 0, zero);
@@ -258,9 +258,9 @@ fn run<R: Threads + Sync>(
     cred: &Cred,
 ) -> AllFound
     requires own { master.old.id ≡ cells.now }
-    requires none { master.old.entries ≡ [] }
+    requires none { master.old.loans ≡ [] }
     requires sealed { IsSealed master.old.slots 0 × IsSealed master.old.slots 1 }
-    ensures master { (master.new.id ≡ cells.now) × (master.new.entries ≡ []) }
+    ensures master { (master.new.id ≡ cells.now) × (master.new.loans ≡ []) }
     ensures put { slice_get master.new.slots 3 ≡ Some (Some cred.now) }
 {
     let lent = lend_all(cells, master);
@@ -297,7 +297,7 @@ fn share<R: Threads + Sync>(
     creds: &Creds,
 ) -> (AllFound, Result<Cred, NoMemory>)
     requires own { master.old.id ≡ cells.now }
-    requires none { master.old.entries ≡ [] }
+    requires none { master.old.loans ≡ [] }
 {
     seal_three(cells, master, &creds.zero, &creds.one, &creds.two);
     let found = run(rt, alloc, cells, master, &creds.many);

@@ -27,7 +27,7 @@ fn decided(alloc: Global, cells: &Cells, lent: Lent) -> Result<Lent, NoMemory>
 /// What a question about the groups of the credential is decided as.
 fn asked(alloc: Global, cells: &Cells, master: &mut Master, cred: &Cred) -> Result<Lent, NoMemory>
     requires own { master.old.id ≡ cells.now }
-    requires none { master.old.entries ≡ [] }
+    requires none { master.old.loans ≡ [] }
 {
     seal(cells, master, 0, cred);
     let hold = master.lend(cells, 1, 0);
@@ -48,7 +48,7 @@ fn altered(
     change: Change,
 ) -> Result<Lent, NoMemory>
     requires own { master.old.id ≡ cells.now }
-    requires none { master.old.entries ≡ [] }
+    requires none { master.old.loans ≡ [] }
 {
     seal(cells, master, 0, cred);
     let base = master.lend(cells, 1, 0);

@@ -56,7 +56,7 @@ fn a_machine_answers_events_one_after_another(rt: HostRuntime) -> Result<(), Fai
     let script = read(rt.alloc(), b"")?;
     let mut machine = Machine::new(rt.alloc(), &script)?;
     let answered = answers(&mut machine);
-    // At one place: a machine is dear to let go of, for the prover.
+    // At one place: a machine is expensive to drop, for the prover.
     drop(machine);
     assert!(rt; answered?);
     Ok(())

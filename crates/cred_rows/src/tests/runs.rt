@@ -56,7 +56,7 @@ pub(crate) fn end_of_gated<R: AllocGlobal + Threads + Wait + Sync, K: Sink, G: G
 ) -> Result<Status, NoMemory> {
     let words = words_of(rt.alloc(), texts)?;
     let end = end_of_words(rt, &words, given, sink, gate);
-    // At one place, here and below: what is owned is dear to let go of, for the prover.
+    // At one place, here and below: what is owned is expensive to drop, for the prover.
     drop(words);
     end
 }

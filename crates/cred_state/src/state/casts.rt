@@ -9,13 +9,14 @@ ghost use Rattle.cred_event.specs.declared.answer.Answer.TheVariants.{NoBroadcas
 ghost use Rattle.cred_record.specs.declared.id_call.IdCall.{IdCall as Call};
 ghost use Rattle.cred_record.specs.Credential.{AreValidSets, Credential};
 ghost use Rattle.cred_rules.specs.SetId.{set_id};
-ghost use Rattle.cred_model.specs.State.{Broadcast, begun_by, cast_in, cast_of, numbered, task_of};
+ghost use Rattle.cred_model.specs.State.{Broadcast, begun_by, cast_in, numbered, task_of};
 ghost use Rattle.cred_model.specs.Casts.{not_busy};
 ghost use Rattle.cred_model.specs.Dumpable.{differs};
 ghost use Rattle.cred_model.specs.Like.{Gives, GivesLike};
 ghost use Rattle.cred_model.specs.Step.{aborted, by_act, by_begin};
+ghost use Rattle.cred_model.specs.Moves.{at_abort};
 ghost use Rattle.cred_sound.specs.Sound.{IsSound};
-ghost use Rattle.cred_tables.specs.Begin.{ActsNext, MayBegin, at_abort};
+ghost use Rattle.cred_tables.specs.Begin.{ActsNext, MayBegin};
 ghost use Rattle.cred_tables.specs.Kept.{cred_under, seen_in, IsInUse};
 ghost use Rattle.cred_tables.specs.Out.{AreOut};
 ghost use Rattle.cred_setid.specs.Parts.{PartsBecome, changed, parts_of};
@@ -131,7 +132,7 @@ impl State {
             self.slots.sweep();
             return Ok(Answer::TableFull);
         };
-        // The others wait before the credential is sealed, since that may want memory.
+        // The others wait before the credential is sealed, since that may take memory.
         let left = begin_in(&self.tasks, &mut self.casts, line, task, call)?;
         renew_in(&self.tasks, &mut self.dump, task, other);
         let number = seal_next(&mut self.slots, slot);

@@ -12,7 +12,7 @@ use cred_hold::Cells;
 use cred_ids::NoMemory;
 use cred_record::Want;
 use cred_script::Script;
-use cred_work::{alter, decide, decide_signal, may_open};
+use cred_work::{NoPause, alter, decide, decide_signal, may_open};
 
 impl State {
     /// Answers a question on the hold that is lent for it in this call. Questions are many, so
@@ -42,6 +42,7 @@ impl State {
         let told = decide(
             self.alloc,
             cells,
+            &NoPause,
             &mut hold,
             query,
             asked_file(self.infos(), query),
@@ -75,7 +76,7 @@ impl State {
         };
         let mut sender = self.lend_found(cells, hold, own);
         let mut receiver = self.lend_found(cells, target, other);
-        let may = decide_signal(cells, &mut sender, &mut receiver);
+        let may = decide_signal(cells, &NoPause, &mut sender, &mut receiver);
         self.take_hold_back(cells, receiver);
         self.take_hold_back(cells, sender);
         self.enter_signal(from, hold, to, target, may)
@@ -110,7 +111,14 @@ impl State {
             return Ok(Answer::NoHold(label));
         };
         let mut hold = self.lend_found(cells, label, found);
-        let may = may_open(self.alloc, cells, &mut hold, self.infos().file(file), want);
+        let may = may_open(
+            self.alloc,
+            cells,
+            &NoPause,
+            &mut hold,
+            self.infos().file(file),
+            want,
+        );
         self.take_hold_back(cells, hold);
         self.open_as(label, file, fd, may?)
     }

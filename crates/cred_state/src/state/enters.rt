@@ -4,7 +4,6 @@ ghost use Rattle.std.specs.Prelude.{false, if◌then◌else◌, OnErr, OnOk};
 ghost use Rattle.cred_event.specs.declared.answer.Answer.TheVariants.{Done, Eacces};
 ghost use Rattle.cred_event.specs.declared.event.Query.{Query as Asked};
 ghost use Rattle.cred_model.specs.Answers.{checked, reply};
-ghost use Rattle.cred_model.specs.Change as model;
 ghost use Rattle.cred_model.specs.Script.{Script as Declared};
 ghost use Rattle.cred_model.specs.Like.{Gives, GivesLike};
 ghost use Rattle.cred_model.specs.Slots.{kept};

@@ -2,7 +2,8 @@
 ghost use Rattle.std.specs.Prelude.{◌≡◌, IfOk, OnErr};
 ghost use Rattle.cred_model.specs.Like.{Gives};
 ghost use Rattle.cred_model.specs.Step.{by_release, by_take, take_hold};
-ghost use Rattle.cred_tables.specs.Kept.{numbered_in, IsInUse};
+ghost use Rattle.cred_model.specs.State.{numbered_in};
+ghost use Rattle.cred_tables.specs.Kept.{IsInUse};
 
 use crate::state::State;
 use cred_event::{Answer, Counted, Named, Side};

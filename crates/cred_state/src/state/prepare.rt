@@ -16,11 +16,12 @@ ghost use Rattle.cred_state.specs.Refusals.{MayPrepare};
 ghost use Rattle.cred_state.specs.Flags.{differs_from};
 
 use crate::state::State;
+use cred_decide::committed_by;
 use cred_event::{Answer, Change, Counted, Named};
 use cred_hold::Cells;
 use cred_ids::{NoMemory, limits};
 use cred_tables::{
-    GivenUp, Numbered, Preparation, Ready, committed_by, drop_all, drop_cast, end_with, seal_kept,
+    GivenUp, Numbered, Preparation, Ready, drop_all, drop_cast, end_with, seal_kept,
 };
 
 impl State {
@@ -53,7 +54,7 @@ impl State {
             Err(answer) => return Ok(answer),
         };
         self.slots.reserve()?;
-        // The label is entered before its slot is kept, since that may want memory.
+        // The label is entered before its slot is kept, since that may take memory.
         let Some(slot) = self.slots.free_slot() else {
             self.slots.sweep();
             return Ok(Answer::TableFull);

@@ -99,7 +99,7 @@ impl State {
             self.slots.sweep();
             return Ok(Answer::TableFull);
         };
-        // The task is entered before its credential is sealed, since that may want memory.
+        // The task is entered before its credential is sealed, since that may take memory.
         let next = self.slots.next_number();
         start_in(&mut self.tasks, &mut self.dump, number, process, next)?;
         let current = seal_next(&mut self.slots, slot);

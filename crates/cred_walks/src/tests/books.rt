@@ -1,5 +1,5 @@
-//! The one owner of the books that the tests walk in. Making a book and letting it go is dear to
-//! prove, so a test lends its walk to the owner, which lends the book to the walk.
+//! The one owner of the books that the tests walk in. Making a book and dropping it is expensive
+//! to prove, so a test lends its walk to the owner, which lends the book to the walk.
 ghost use Rattle.std.specs.Prelude.{◌≡◌, ◌<◌, ℕ, [], None, OnOk};
 ghost use Rattle.cred_book.specs.Book.{out_of};
 ghost use Rattle.cred_book.specs.Counts.{IsOutNow};
@@ -31,7 +31,7 @@ pub(crate) trait Walk {
 ///
 /// # Errors
 ///
-/// A text that is no script, want of memory, or what kept the walk from its end.
+/// A text that is no script, out of memory, or what kept the walk from its end.
 pub(crate) fn walk_in_book<W: Walk>(alloc: Global, text: &str, walk: &mut W) -> Result<(), Fail> {
     if line_count(text.as_bytes()) > limits::LINE_LIMIT {
         return Err(Fail::from("too many lines"));
@@ -47,7 +47,7 @@ pub(crate) fn walk_in_book<W: Walk>(alloc: Global, text: &str, walk: &mut W) -> 
 ///
 /// # Errors
 ///
-/// Want of memory, or a lane whose line is the least one left and which makes no step.
+/// Out of memory, or a lane whose line is the least one left and which makes no step.
 pub(crate) fn run_whole(alloc: Global, cells: &Cells, book: &mut Book) -> Result<(), Fail>
     requires own { book.old.words.id ≡ cells.now }
     requires stands { BookStands book.old }

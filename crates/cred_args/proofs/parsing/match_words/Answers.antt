@@ -13,4 +13,5 @@ returns c =
     let line_is : app_of c.in_ok-line.line ≡ line
     = c.in_ok-line.ensures.shape (search rules) ∙ ap₂ with_rule (c.in_ok-arg.ensures.shape (search rules) ∙ ap₂ with_rule bare_is command_is) operand_is in
     let parse = c.try_get_matches_from in
-    found_so (app_of c.in_ok-line.line) (map string_bytes c.args.words.now) parse.result line_is (parse.ensures.kinds (ap is_simple_and_free line_is ∙ is_free)) parse.ensures.matches
+    found_so (app_of c.in_ok-line.line) (map string_bytes c.args.words.now) parse.result line_is (parse.ensures.kinds (ap is_simple_and_free line_is ∙ is_free))
+    parse.ensures.matches

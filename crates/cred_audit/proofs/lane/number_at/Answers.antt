@@ -6,7 +6,9 @@ use Rattle.cred_audit.proofs.lane.number_at.Goals as goal
 
 pub returns-in_err-end : goal.returns-in_err-end
 returns-in_err-end c =
-    let at = position_from_yields_List (λ b. b == 32) _ _ c.position.result c.position.ensures.ran (YieldsList-from_slice _ c.iter.ensures.rest) (λ x b q k. search (rules, tests)) in
+    let at =
+    position_from_yields_List (λ b. b == 32) _ _ c.position.result c.position.ensures.ran (YieldsList-from_slice _ c.iter.ensures.rest)
+    (λ x b q k. search (rules, tests)) in
     λ number rest some few is.
     let end = number_end c.args.bytes.now number rest c.position.result few is at in
     let none = c.in_err-end.was in
@@ -14,7 +16,9 @@ returns-in_err-end c =
 
 pub returns : goal.returns
 returns c =
-    let at = position_from_yields_List (λ b. b == 32) _ _ c.position.result c.position.ensures.ran (YieldsList-from_slice _ c.iter.ensures.rest) (λ x b q k. search (rules, tests)) in
+    let at =
+    position_from_yields_List (λ b. b == 32) _ _ c.position.result c.position.ensures.ran (YieldsList-from_slice _ c.iter.ensures.rest)
+    (λ x b q k. search (rules, tests)) in
     λ number rest some few is.
     let end = number_end c.args.bytes.now number rest c.position.result few is at in
     let found = c.in_ok-end.was in

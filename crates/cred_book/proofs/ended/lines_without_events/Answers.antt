@@ -36,7 +36,8 @@ lines-preserved c =
     let at : line_at c.args.script.now c.lines.number ≡ Some line = sym c.in-Some.ensures.found in
     let within = counted_place c.args.script.now c.lines.ended.items c.lines.number line c.lines.invariant at in
     let small : HasSmall line = c.in-Some.ensures.sound.labels in
-    let stage : c.ended.result ≡ is_none (start c.lines.number line.content).stage = c.ended.ensures ∙ ap (λ course. is_none course.stage) c.start.ensures.value in
+    let stage : c.ended.result ≡ is_none (start c.lines.number line.content).stage =
+    c.ended.ensures ∙ ap (λ course. is_none course.stage) c.start.ensures.value in
     elim c.if-ended.branch [
       | then-ended w ↦
           let one = counted_one c.args.script.now c.lines.ended.items c.lines.number line c.lines.invariant at small (sym stage ∙ w.if-ended.true) within in

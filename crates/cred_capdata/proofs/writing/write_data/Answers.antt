@@ -1,15 +1,15 @@
 -- The bytes are the eight words, cut to the version's length.
 use Rattle.std.proofs.Common.{◌≡◌, take, sym, ap, subst, ◌∙◌, arith}
-use Rattle.cred_capdata.specs.Record.{Spells, IsCanonical, size_of}
+use Rattle.cred_capdata.specs.Record.{SpellsData, IsCanonicalData, size_of}
 use Rattle.cred_capdata.proofs.Written.{AreWords, IsWritten, first_of, second_of, written}
 use Rattle.cred_capdata.proofs.writing.write_data.Goals as goal
 
 are-words : (c : goal.In_ok-of)
-    → AreWords c.args.caps.now c.word_of.result c.words_of-eff.result.low
+    → AreWords c.args.caps.now c.word_of_version.result c.words_of-eff.result.low
     c.words_of-perm.result.low c.words_of-inh.result.low c.words_of-eff.result.high
     c.words_of-perm.result.high c.words_of-inh.result.high
 are-words c = record {
-  word = c.word_of.ensures;
+  word = c.word_of_version.ensures;
   v_fits = omega arith;
   t_fits = omega arith;
   eff = c.words_of-eff.ensures.spells;
@@ -26,7 +26,7 @@ are-words c = record {
 is-cut : (c : goal.In_ok-of)
     → c.in_ok-of.field-0
     ≡ take (size_of c.args.caps.now.version)
-    (first_of c.word_of.result c.args.caps.now.target c.words_of-eff.result.low
+    (first_of c.word_of_version.result c.args.caps.now.target c.words_of-eff.result.low
     c.words_of-perm.result.low c.words_of-inh.result.low
     (second_of c.words_of-eff.result.high c.words_of-perm.result.high
     c.words_of-inh.result.high))
@@ -38,7 +38,7 @@ is-cut c =
 is-written : (c : goal.In_ok-of) → IsWritten c.in_ok-of.field-0 c.args.caps.now
 is-written c =
     subst (λ bytes. IsWritten bytes c.args.caps.now) (sym (is-cut c))
-    (written c.args.caps.now c.word_of.result c.words_of-eff.result.low
+    (written c.args.caps.now c.word_of_version.result c.words_of-eff.result.low
     c.words_of-perm.result.low c.words_of-inh.result.low c.words_of-eff.result.high
     c.words_of-perm.result.high c.words_of-inh.result.high (are-words c) c.requires)
 

@@ -1,10 +1,10 @@
 use Rattle.std.proofs.Common.{◌≡◌, ◌∷◌, [], ap, sym, subst, ◌∙◌, arith}
 use Rattle.cred_caps.specs.Caps.{IsCaps, less}
 use Rattle.cred_rules.specs.Attribute.{Attribute}
-use Rattle.cred_captext.specs.Grammar.{text_of}
+use Rattle.cred_captext.specs.Grammar.{clauses_text}
 use Rattle.cred_captext.specs.Pieces.{with_clause, or_none}
 use Rattle.cred_captext.specs.Printed.{clauses, printed, HasText}
-use Rattle.cred_captext.specs.Reading.{Says}
+use Rattle.cred_captext.specs.Reading.{TextSays}
 use Rattle.cred_captext.proofs.Pieces.{three-more, none-is}
 use Rattle.cred_captext.proofs.Printed.{printed-says}
 use Rattle.cred_captext.proofs.printing.print_text.Goals as goal
@@ -19,7 +19,7 @@ value c = record {
   root = c.caps.inside.root;
 }
 
-written : (c : goal.After-from_vec) → c.from_vec.result ≡ text_of (printed (value c))
+written : (c : goal.After-from_vec) → c.from_vec.result ≡ clauses_text (printed (value c))
 written c =
     let e = c.caps.inside.effective in
     let one = c.in_ok-append_clause.ensures
@@ -36,7 +36,7 @@ written c =
     c.append_clause-3.new.out.items one two three in
     c.from_vec.ensures ∙ c.in_ok-append_none.ensures ∙ ap or_none all ∙ none-is (clauses (value c))
 
-says : (c : goal.After-from_vec) → HasText (value c) → Says c.from_vec.result (value c)
+says : (c : goal.After-from_vec) → HasText (value c) → TextSays c.from_vec.result (value c)
 says c has =
     let root = c.caps.invariant.initial (λ three. omega (arith, has.0, three)) in
     let perm = subst IsCaps c.bits.ensures.value c.bits.ensures.caps in
@@ -45,7 +45,7 @@ says c has =
 
 pub returns : goal.returns
 returns c = record {
-  text = written c ∙ ap (λ a. text_of (printed a)) c.caps.view_is;
-  read = λ has. subst (Says c.from_vec.result) c.caps.view_is
+  text = written c ∙ ap (λ a. clauses_text (printed a)) c.caps.view_is;
+  read = λ has. subst (TextSays c.from_vec.result) c.caps.view_is
       (says c (subst HasText (sym c.caps.view_is) has));
 }

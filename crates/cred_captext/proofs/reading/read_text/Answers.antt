@@ -1,5 +1,5 @@
 use Rattle.std.proofs.Common.{◌∙◌, ap}
-use Rattle.cred_captext.specs.Meaning.{answer_of}
+use Rattle.cred_captext.specs.Meaning.{attribute_or_mixed}
 use Rattle.cred_captext.proofs.Live.{none-there}
 use Rattle.cred_captext.proofs.Read.{answers, same-sets}
 use Rattle.cred_captext.proofs.reading.read_text.Goals as goal
@@ -11,7 +11,7 @@ returns-in-Ok c =
     record {
       value = is.value;
       each_value = λ t spells. c.caps_of.ensures
-          ∙ ap answer_of (same-sets c.args.text.now c.in-Ok.sets c.in-Ok.ensures.sets t spells);
+          ∙ ap attribute_or_mixed (same-sets c.args.text.now c.in-Ok.sets c.in-Ok.ensures.sets t spells);
       refusal = is.refusal;
     }
 

@@ -9,7 +9,8 @@ use Rattle.cred_commands.proofs.ordered.run_script_in_order.Goals as goal
 pub returns-in-Ok-clause-runs : goal.returns-in-Ok-clause-runs
 returns-in-Ok-clause-runs g c =
     let within : IsWithinLimits c.args.bytes.now = record { bytes = c.requires.within; lines = omega arith } in
-    let is : IsScript c.args.bytes.now c.in-Ok.script = record { within = within; few = omega (arith, c.in-Ok.ensures.lines); read = c.in-Ok.ensures.given; setup = c.in-Ok.ensures.setup } in
+    let is : IsScript c.args.bytes.now c.in-Ok.script =
+    record { within = within; few = omega (arith, c.in-Ok.ensures.lines); read = c.in-Ok.ensures.given; setup = c.in-Ok.ensures.setup } in
     ran_script IsSequence c.args.bytes.now c.in-Ok.script c.report_in_order-status.result _ _ _ is
     (λ journal one. sequence_is_legal c.in-Ok.script journal is.setup one)
     c.report_in_order-status.ensures.done c.report_in_order-status.ensures.prefix c.report_in_order-status.ensures.only

@@ -37,7 +37,8 @@ returns-clause-ok g c =
 
 pub returns-clause-err : goal.returns-clause-err
 returns-clause-err g c =
-    on_err_weaker c.write_last.result (λ prefix. kept_begins c.args.script.now c.lines.past c.lines.state.state c.lines.entries.items _ _ _ c.lines.invariant.kept
+    on_err_weaker c.write_last.result
+    (λ prefix. kept_begins c.args.script.now c.lines.past c.lines.state.state c.lines.entries.items _ _ _ c.lines.invariant.kept
     (rw c.deref.ensures.value at prefix)) c.write_last.ensures.err
 
 pub returns-clause-cause : goal.returns-clause-cause

@@ -10,7 +10,8 @@ add-requires c =
     let runs = rw c.lines.invariant.empty at c.in_ok-run_line.ensures.runs in
     let lines : length c.args.script.now.lines ≤ 20000 = omega (arith, c.lines-in-lines.ensures.few, c.lines-in-lines.ensures.count) in
     rw c.deref.ensures.value
-    (told_room c.args.script.now c.lines.past c.lines.state.state c.run_line.new.state.state c.lines.told c.run_line.new.entries.items lines c.lines.invariant.told runs)
+    (told_room c.args.script.now c.lines.past c.lines.state.state c.run_line.new.state.state c.lines.told c.run_line.new.entries.items lines
+    c.lines.invariant.told runs)
 
 pub lines-preserved : goal.lines-preserved
 lines-preserved c =
@@ -20,7 +21,8 @@ lines-preserved c =
       empty = c.clear.ensures.items;
       words = c.run_line.ensures.words ∙ c.lines.invariant.words;
       told = rw (c.add.ensures, c.deref.ensures.value)
-          (told_more c.args.script.now c.lines.past c.lines.state.state c.run_line.new.state.state c.lines.told c.run_line.new.entries.items c.lines.invariant.told runs);
+          (told_more c.args.script.now c.lines.past c.lines.state.state c.run_line.new.state.state c.lines.told c.run_line.new.entries.items
+          c.lines.invariant.told runs);
     }
 
 pub returns : goal.returns

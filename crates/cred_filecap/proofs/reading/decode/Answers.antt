@@ -9,8 +9,11 @@ pub invariant_of-result : goal.invariant_of-result
 invariant_of-result c = record {
   known = search (rules, tests);
   initial = λ other. search (rules, tests);
-  low_perm = λ one. one-word _ _ (subst (λ v. SpellsSet (word_at c.args.bytes.now 4) (high_in v (word_at c.args.bytes.now 12)) c.set_at.result) one c.set_at.ensures);
-  low_inh = λ one. one-word _ _ (subst (λ v. SpellsSet (word_at c.args.bytes.now 8) (high_in v (word_at c.args.bytes.now 16)) c.set_at-2.result) one c.set_at-2.ensures);
+  low_perm =
+      λ one. one-word _ _ (subst (λ v. SpellsSet (word_at c.args.bytes.now 4) (high_in v (word_at c.args.bytes.now 12)) c.set_at.result) one c.set_at.ensures);
+  low_inh =
+      λ one. one-word _ _
+      (subst (λ v. SpellsSet (word_at c.args.bytes.now 8) (high_in v (word_at c.args.bytes.now 16)) c.set_at-2.result) one c.set_at-2.ensures);
 }
 
 pub returns-clause-value : goal.returns-clause-value

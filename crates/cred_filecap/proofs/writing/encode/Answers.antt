@@ -15,7 +15,8 @@ value c = record {
   root = c.caps.inside.root;
 }
 
-are-words : (c : goal.In_ok-of) → AreWords (value c) c.magic.result c.words_of-perm.result.low c.words_of-inh.result.low c.words_of-perm.result.high c.words_of-inh.result.high
+are-words : (c : goal.In_ok-of)
+    → AreWords (value c) c.magic.result c.words_of-perm.result.low c.words_of-inh.result.low c.words_of-perm.result.high c.words_of-inh.result.high
 are-words c = record {
   magic = record { value = c.magic.ensures; byte = omega arith };
   perm = c.words_of-perm.ensures.spells;
@@ -32,7 +33,11 @@ length-is : (c : goal.In_ok-of) (v : ℕ) → c.caps.inside.version ≡ v
     → c.length_of.result ≡ (if v == 1 then Some 12 else if v == 2 then Some 20 else if v == 3 then Some 24 else None)
 length-is c v is = c.length_of.ensures ∙ ap (λ n. if n == 1 then Some 12 else if n == 2 then Some 20 else if n == 3 then Some 24 else None) is
 
-written : (c : goal.In_ok-of) (n : ℕ) → c.length_of.result ≡ Some n → c.in_ok-of.field-0 ≡ take n (bytes_of c.magic.result c.words_of-perm.result.low c.words_of-inh.result.low c.words_of-perm.result.high c.words_of-inh.result.high (little_bytes 4 c.caps.inside.root))
+written : (c : goal.In_ok-of) (n : ℕ) → c.length_of.result ≡ Some n
+    → c.in_ok-of.field-0
+    ≡ take n
+    (bytes_of c.magic.result c.words_of-perm.result.low c.words_of-inh.result.low c.words_of-perm.result.high c.words_of-inh.result.high
+    (little_bytes 4 c.caps.inside.root))
 written c n is =
     let length : c.unwrap-length.result ≡ n = search (rules, is) in
     c.in_ok-of.ensures ∙ ap (λ k. take k c.write_u32_into.new.dst) length ∙ ap (take n) c.write_u32_into.ensures

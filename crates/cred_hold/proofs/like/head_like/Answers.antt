@@ -43,5 +43,6 @@ returns-clause-words c =
     let ns = c.load_word-ns.ensures.value ∙ ap (λ h. slice_index h.token.words NAMESPACE) three ∙ there.ns in
     let root = c.load_word-root.ensures.value ∙ ap (λ h. slice_index h.token.words ROOT) four ∙ there.root in
     let given = c.flags_like.ensures (credential_in ws) c.args.parts.now (words-are ws c.requires.known).0 flags in
-    (λ k. user.0 k ∷ user.1 k ∷ group.0 k ∷ group.1 k ∷ c.bits.ensures.value k ∷ inh k ∷ c.bits-2.ensures.value k ∷ bound k ∷ c.bits-3.ensures.value k ∷ given k ∷ ns k ∷ root k ∷ []) ∙
+    (λ k. user.0 k ∷ user.1 k ∷ group.0 k ∷ group.1 k ∷ c.bits.ensures.value k ∷ inh k ∷ c.bits-2.ensures.value k ∷ bound k ∷ c.bits-3.ensures.value k ∷ given
+    k ∷ ns k ∷ root k ∷ []) ∙
     sym (head-changed (credential_in ws) c.args.parts.now c.args.groups.now)

@@ -119,5 +119,6 @@ returns-clause-words c =
     let w = c.clear.ensures.words in
     let now = c.clear.new.writer.token.words in
     let all : now ≡ ws =
-    completed now ws (GROUPS + end) (w.0 ∙ width_is ∙ sym (length-words_of d)) (w.1 ∙ put) (blank-zeros now (GROUPS + end) w.0 w.2) (blank-words_of d end (omega arith)) in
+    completed now ws (GROUPS + end) (w.0 ∙ width_is ∙ sym (length-words_of d)) (w.1 ∙ put) (blank-zeros now (GROUPS + end) w.0 w.2)
+    (blank-words_of d end (omega arith)) in
     (e.0 ∙ i.0, e.1 ∙ ap (λ (t : Token). put_words t now) i.2.token ∙ ap (put_words c.args.writer.now.token) all)

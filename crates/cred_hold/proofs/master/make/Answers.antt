@@ -21,6 +21,6 @@ unfolding none_sealed
 returns c =
     let e = c.in_ok-cells.ensures in (
       e.0,
-      ap (λ (d : Ledger). map loan_seen d.entries) e.1,
+      ap (λ (d : Ledger). map loan_seen d.loans) e.1,
       ap (λ (d : Ledger). map slot_seen d.slots) e.1 ∙ map-replicate slot_seen count _ ∙ ap (λ n. replicate n None) count_is,
     )

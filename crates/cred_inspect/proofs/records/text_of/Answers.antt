@@ -1,6 +1,6 @@
 use Rattle.std.proofs.Common.{◌≡◌, List, ℕ, codes, decimal, ap, ◌++◌, ◌∙◌}
 use Rattle.hex.specs.Hex.{encode_lower}
-use Rattle.cred_pen.specs.Numbers.{set_text}
+use Rattle.cred_report.specs.Numbers.{set_text}
 use Rattle.cred_inspect.specs.Records.{AreBytesAs3, record_text}
 use Rattle.cred_inspect.proofs.Appended.{appended}
 use Rattle.cred_inspect.proofs.records.text_of.Goals as goal

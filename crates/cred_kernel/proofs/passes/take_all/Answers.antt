@@ -14,9 +14,11 @@ loop-turn-preserved g c =
     let gives : into_iter_items c.into_iter-turn-iterator.result ≡ c.turns.inside.turns.items = c.into_iter-turn-iterator.ensures.into_iter_gives.0 in
     let view : c.turns.inside.turns.items ≡ c.args.turns = c.turns.view_is in
     let all : into_iter_items c.into_iter-turn-iterator.result ≡ c.args.turns = gives ∙ view in
-    let lane : t.lane ≡ length at.yielded + 1 = lane_is g.K.Name.script c.args.turns at.yielded (into_iter_items c.next.new.self) t c.requires.all (left ∙ all) in
+    let lane : t.lane ≡ length at.yielded + 1 =
+    lane_is g.K.Name.script c.args.turns at.yielded (into_iter_items c.next.new.self) t c.requires.all (left ∙ all) in
     let was : row_of at.roll.rows t.lane ≡ lent_row t.numbers = rw c.into_pass.ensures at c.take.ensures.was in
-    let now : c.take.new.self ≡ record { id = at.roll.id; rows = with_row at.roll.rows t.lane (home_row t.numbers) } = rw c.into_pass.ensures at c.take.ensures.roll in
+    let now : c.take.new.self ≡ record { id = at.roll.id; rows = with_row at.roll.rows t.lane (home_row t.numbers) } =
+    rw c.into_pass.ensures at c.take.ensures.roll in
     record {
       can = tt;
       ends = tt;

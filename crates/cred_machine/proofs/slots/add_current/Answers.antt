@@ -13,4 +13,5 @@ loop-task-preserved c =
 pub returns : goal.returns
 returns c =
     c.loop-task.invariant
-    ∙ ap (λ (xs : List Task). c.args.numbers.now.items ++ map (λ (x : Task). x.current) xs) (take_all c.loop-task.task-index c.args.tasks.now c.loop-task-test.false)
+    ∙ ap (λ (xs : List Task). c.args.numbers.now.items ++ map (λ (x : Task). x.current) xs)
+    (take_all c.loop-task.task-index c.args.tasks.now c.loop-task-test.false)

@@ -13,4 +13,5 @@ loop-hold-preserved c =
 pub returns : goal.returns
 returns c =
     c.loop-hold.invariant
-    ∙ ap (λ (xs : List Hold). c.args.numbers.now.items ++ map (λ (x : Hold). x.number) xs) (take_all c.loop-hold.hold-index c.args.holds.now c.loop-hold-test.false)
+    ∙ ap (λ (xs : List Hold). c.args.numbers.now.items ++ map (λ (x : Hold). x.number) xs)
+    (take_all c.loop-hold.hold-index c.args.holds.now c.loop-hold-test.false)

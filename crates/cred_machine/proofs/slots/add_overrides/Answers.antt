@@ -7,7 +7,8 @@ use Rattle.cred_machine.proofs.slots.add_overrides.Goals as goal
 
 pub loop-task-preserved : goal.loop-task-preserved
 loop-task-preserved c =
-    more_each c.args.tasks.now c.loop-task.task-index c.task-item.result c.loop-task-test.true c.task-item.is (λ (x : Task). x.overrides) c.args.numbers.now.items
+    more_each c.args.tasks.now c.loop-task.task-index c.task-item.result c.loop-task-test.true c.task-item.is (λ (x : Task). x.overrides)
+    c.args.numbers.now.items
     c.loop-task.numbers.items c.extend_from_slice.new.self.items
     (c.in_ok-extend_from_slice.ensures.items
     ∙ ap (λ ns. c.loop-task.numbers.items ++ ns) (c.deref.ensures.value ∙ ap (λ (x : Task). x.overrides) c.task.view_is)) c.loop-task.invariant

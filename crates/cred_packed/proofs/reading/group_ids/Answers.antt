@@ -8,7 +8,8 @@ use Rattle.cred_record.proofs.Halves.{half-at}
 use Rattle.cred_packed.proofs.reading.group_ids.Goals as goal
 
 pub returns-in_default-clause-none : goal.returns-in_default-clause-none
-returns-in_default-clause-none c = (c.loop-place.place, c.loop-place-test.true, λ small. c.in_default.ensures (subst IsId (sym (half-at c.args.words.now c.loop-place.place)) small))
+returns-in_default-clause-none c =
+    (c.loop-place.place, c.loop-place-test.true, λ small. c.in_default.ensures (subst IsId (sym (half-at c.args.words.now c.loop-place.place)) small))
 
 pub loop-place-preserved : goal.loop-place-preserved
 loop-place-preserved c =

@@ -4,7 +4,8 @@ use Rattle.cred_record.proofs.WordLemmas.{group-at, groups-sorted, groups-few}
 use Rattle.cred_packed.proofs.reading.groups_in.Goals as goal
 
 pub returns-then-count-gt-GROUP_LIMIT-clause-none : goal.returns-then-count-gt-GROUP_LIMIT-clause-none
-returns-then-count-gt-GROUP_LIMIT-clause-none c is = let few = groups-few _ is in let many = c.if-count-gt-GROUP_LIMIT.true in omega (arith, c.group_count-count.ensures)
+returns-then-count-gt-GROUP_LIMIT-clause-none c is =
+    let few = groups-few _ is in let many = c.if-count-gt-GROUP_LIMIT.true in omega (arith, c.group_count-count.ensures)
 
 pub returns-in_default-clause-none : goal.returns-in_default-clause-none
 returns-in_default-clause-none c is =

@@ -21,5 +21,7 @@ returns-in_err-of_bits-5-clause-none c = none-is _ c.args.head.now (λ is. c.in_
 pub returns-else-are_valid-clause-none : goal.returns-else-are_valid-clause-none
 returns-else-are_valid-clause-none c is =
     let P : ℕ × ℕ × ℕ × ℕ → Type 0 = λ s. AreValidSets s.0 s.1 s.2 s.3 in
-    let valid = subst P (λ k. (sym c.in_ok-of_bits.ensures.1 k, sym c.in_ok-of_bits-2.ensures.1 k, sym c.in_ok-of_bits-3.ensures.1 k, sym c.in_ok-of_bits-5.ensures.1 k)) (head-facts c.args.head.now is).valid in
+    let valid =
+    subst P (λ k. (sym c.in_ok-of_bits.ensures.1 k, sym c.in_ok-of_bits-2.ensures.1 k, sym c.in_ok-of_bits-3.ensures.1 k, sym c.in_ok-of_bits-5.ensures.1 k))
+    (head-facts c.args.head.now is).valid in
     true≢false (sym (c.are_valid.ensures.1 valid) ∙ c.if-are_valid.false)

@@ -27,4 +27,5 @@ loop-task-preserved c =
 pub returns : goal.returns
 returns c =
     c.loop-task.invariant
-    ∙ ap (λ (ts : List Task). c.args.numbers.now.items ++ left_by (ends_by c.args.ending) ts) (take_all c.loop-task.task-index c.args.tasks.now c.loop-task-test.false)
+    ∙ ap (λ (ts : List Task). c.args.numbers.now.items ++ left_by (ends_by c.args.ending) ts)
+    (take_all c.loop-task.task-index c.args.tasks.now c.loop-task-test.false)

@@ -1,6 +1,6 @@
 use Rattle.std.proofs.Common.{◌≡◌, ◌≤◌, ◌++◌}
 use Rattle.hex.specs.Hex.{encode_lower}
-use Rattle.cred_pen.specs.declared.pen.TheConstants.{PARTS}
+use Rattle.cred_report.specs.declared.pen.TheConstants.{PARTS}
 use Rattle.cred_report.proofs.file_events.prepend_hex.Given as goal
 
 abbrev pub invariant-loop-byte : goal.invariant-loop-byte

@@ -8,7 +8,8 @@ use Rattle.cred_runs.proofs.runs.run_lanes.Goals as goal
 pub returns-in-Ok-lanes-clause-runs : goal.returns-in-Ok-lanes-clause-runs
 returns-in-Ok-lanes-clause-runs g c =
     let within : IsWithinLimits c.args.bytes.now = record { bytes = c.requires.within; lines = omega arith } in
-    let is : IsScript c.args.bytes.now c.in-Ok.script = record { within = within; few = omega (arith, c.in-Ok.ensures.lines); read = c.in-Ok.ensures.given; setup = c.in-Ok.ensures.setup } in
+    let is : IsScript c.args.bytes.now c.in-Ok.script =
+    record { within = within; few = omega (arith, c.in-Ok.ensures.lines); read = c.in-Ok.ensures.given; setup = c.in-Ok.ensures.setup } in
     let all = rw (c.deref.ensures.value, c.in-Ok-lanes.ensures.script) at c.report.ensures.done in
     let begun = rw (c.deref.ensures.value, c.in-Ok-lanes.ensures.script) at c.report.ensures.prefix in
     let journal = c.in-Ok-lanes.journal.entries.items in

@@ -11,5 +11,7 @@ returns-clause-told g c =
 pub returns-clause-writing : goal.returns-clause-writing
 returns-clause-writing g c = record {
   handed_on = finished_whole c.write_text.result c.args.status c.finish.result c.write_text.ensures.handed_on c.finish.ensures;
-  cause = finished_counts c.write_text.result c.args.status c.finish.result _ _ (λ fault. subst IsWhole fault c.requires) c.finish.ensures c.write_text.ensures.cause;
+  cause =
+      finished_counts c.write_text.result c.args.status c.finish.result _ _ (λ fault. subst IsWhole fault c.requires) c.finish.ensures
+      c.write_text.ensures.cause;
 }

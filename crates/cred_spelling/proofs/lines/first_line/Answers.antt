@@ -4,7 +4,8 @@ use Rattle.cred_spelling.proofs.lines.first_line.Goals as goal
 
 pub returns-then-end-bytes-clause-line : goal.returns-then-end-bytes-clause-line
 returns-then-end-bytes-clause-line c =
-    first_line_all c.args.bytes.now c.printable_end-end.result c.requires (omega arith) (no_end_before c.args.bytes.now c.printable_end-end.result c.printable_end-end.ensures.before)
+    first_line_all c.args.bytes.now c.printable_end-end.result c.requires (omega arith)
+    (no_end_before c.args.bytes.now c.printable_end-end.result c.printable_end-end.ensures.before)
 
 pub returns-then-end-bytes-clause-printable : goal.returns-then-end-bytes-clause-printable
 returns-then-end-bytes-clause-printable c =
@@ -12,7 +13,8 @@ returns-then-end-bytes-clause-printable c =
 
 pub returns-then-bytes-end-eq10-clause-line : goal.returns-then-bytes-end-eq10-clause-line
 returns-then-bytes-end-eq10-clause-line c =
-    first_line_at c.args.bytes.now c.printable_end-end.result (omega arith) (no_end_before c.args.bytes.now c.printable_end-end.result c.printable_end-end.ensures.before) c.if-bytes-end-eq10.true
+    first_line_at c.args.bytes.now c.printable_end-end.result (omega arith)
+    (no_end_before c.args.bytes.now c.printable_end-end.result c.printable_end-end.ensures.before) c.if-bytes-end-eq10.true
 
 pub returns-then-bytes-end-eq10-clause-printable : goal.returns-then-bytes-end-eq10-clause-printable
 returns-then-bytes-end-eq10-clause-printable c =

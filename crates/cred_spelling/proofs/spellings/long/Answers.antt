@@ -6,7 +6,8 @@ use Rattle.cred_spelling.proofs.spellings.long.Goals as goal
 pub returns-in-Ok : goal.returns-in-Ok
 returns-in-Ok c =
     c.ok.ensures.value
-    ∙ number_of_parsed c.args.word.now c.parse.result (subst (λ (bs : List ℕ). ParsesUnsigned 32 10 bs c.parse.result) c.in-Ok.ensures.cases.0 c.parse.ensures.value.0) c.requires.some c.requires.low
+    ∙ number_of_parsed c.args.word.now c.parse.result
+    (subst (λ (bs : List ℕ). ParsesUnsigned 32 10 bs c.parse.result) c.in-Ok.ensures.cases.0 c.parse.ensures.value.0) c.requires.some c.requires.low
 
 pub returns-in-Err : goal.returns-in-Err
 returns-in-Err c = sym (number_of_no_text c.args.word.now c.in-Err.ensures.cases.0 c.requires.some c.requires.low)

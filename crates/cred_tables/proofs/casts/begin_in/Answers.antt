@@ -5,7 +5,8 @@ use Rattle.cred_model.specs.State.{Task}
 use Rattle.cred_model.specs.Ends.{is_beside}
 use Rattle.cred_model.proofs.Places.{if_some}
 use Rattle.cred_model.proofs.Rising.{length-in_order}
-use Rattle.cred_cast.specs.Casts.{WaitsNowhere, cast_within}
+use Rattle.cred_model.specs.Casts.{WaitsNowhere}
+use Rattle.cred_cast.specs.Casts.{cast_within}
 use Rattle.cred_procs.specs.Tasks.{task_in, those}
 use Rattle.cred_tables.specs.Begin.{HasBegun, cast_begun}
 use Rattle.cred_tables.proofs.Begun.{begun_casts, few_those}
@@ -23,7 +24,8 @@ begin-requires-clause-new c = c.requires.new
 
 pub begin-requires-clause-one : goal.begin-requires-clause-one
 begin-requires-clause-one c =
-    let process = owner_process c.args.tasks.now c.args.task c.unwrap-process.result c.requires.owner c.requires.lives c.unwrap-process.ensures c.process_of.ensures in
+    let process =
+    owner_process c.args.tasks.now c.args.task c.unwrap-process.result c.requires.owner c.requires.lives c.unwrap-process.ensures c.process_of.ensures in
     ap (cast_within c.args.casts.now) process ∙ c.requires.idle
 
 pub begin-requires-clause-once : goal.begin-requires-clause-once
@@ -42,10 +44,13 @@ returns-clause-ok c =
     let owner = c.requires.owner in
     let process = owner_process tasks c.args.task c.unwrap-process.result owner c.requires.lives c.unwrap-process.ensures c.process_of.ensures in
     let these = if_some _ (task_in tasks c.args.task) owner c.requires.lives c.in_ok-others.ensures.others in
-    let Begun : Task → Type 0 = λ o. HasBegun c.args.casts.now c.begin.new.self (cast_begun c.args.line c.args.task c.args.call.now o tasks) (length c.items-2.result.now) in
+    let Begun : Task → Type 0 =
+    λ o. HasBegun c.args.casts.now c.begin.new.self (cast_begun c.args.line c.args.task c.args.call.now o tasks) (length c.items-2.result.now) in
     subst (λ (found : Option Task). IfSome found Begun) (sym c.requires.lives)
     (record {
-      casts = begun_casts c.args.casts.now c.begin.new.self tasks c.args.line c.args.task owner c.args.call.now process (c.items.ensures ∙ these) c.in_ok-begin.ensures.ok;
+      casts =
+          begun_casts c.args.casts.now c.begin.new.self tasks c.args.line c.args.task owner c.args.call.now process (c.items.ensures ∙ these)
+          c.in_ok-begin.ensures.ok;
       waiting = ap length (c.items-2.ensures ∙ these) ∙ sym (length-in_order (those (is_beside owner) tasks));
     })
 

@@ -18,13 +18,16 @@ loop-number-preserved c =
     let ns = c.args.numbers.now in
     let i = c.loop-number.number-index in
     record {
-      held = one-less ns t.held c.requires c.loop-number.slots.held i 0 c.loop-number-test.true c.loop-number.invariant.held c.drop_later.new.self.held c.drop_later.ensures.held;
+      held =
+          one-less ns t.held c.requires c.loop-number.slots.held i 0 c.loop-number-test.true c.loop-number.invariant.held c.drop_later.new.self.held
+          c.drop_later.ensures.held;
       table = table-more t c.loop-number.slots c.drop_later.new.self ns i 0 c.loop-number-test.true c.loop-number.invariant.table c.drop_later.ensures.table;
     }
 
 pub drop_later-requires : goal.drop_later-requires
 drop_later-requires c =
-    still-held c.args.numbers.now c.args.slots.now.held c.requires c.loop-number.slots.held c.loop-number.number-index 0 c.loop-number-test.true c.loop-number.invariant.held
+    still-held c.args.numbers.now c.args.slots.now.held c.requires c.loop-number.slots.held c.loop-number.number-index 0 c.loop-number-test.true
+    c.loop-number.invariant.held
 
 pub returns-clause-held : goal.returns-clause-held
 returns-clause-held c =

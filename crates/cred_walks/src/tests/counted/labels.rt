@@ -19,8 +19,8 @@ impl Lists {
                 let number = self.number_of(Owner::File(*fd));
                 self.holds(*label, number, answer)
             }
-            Event::Release { label } => Ok(self.lets_go(Owner::Hold(*label), answer)),
-            Event::CloseFile { fd } => Ok(self.lets_go(Owner::File(*fd), answer)),
+            Event::Release { label } => Ok(self.drops(Owner::Hold(*label), answer)),
+            Event::CloseFile { fd } => Ok(self.drops(Owner::File(*fd), answer)),
             Event::OpenFile { hold, fd, .. } => self.opens(*hold, *fd, answer),
             _ => self.on_prepared(event, answer),
         }
@@ -40,7 +40,7 @@ impl Lists {
         Ok(number == Some(cred) && self.stands(cred, slot))
     }
 
-    fn lets_go(&mut self, owner: Owner, answer: &Answer) -> bool {
+    fn drops(&mut self, owner: Owner, answer: &Answer) -> bool {
         self.gives_up(owner);
         matches!(answer, Answer::Done)
     }

@@ -139,7 +139,7 @@ impl Lists {
         }
     }
 
-    /// All that was given up lets go.
+    /// All that was given up is dropped.
     pub(crate) fn sweep(&mut self) {
         self.references.retain(|own| own.owner != Owner::GivenUp);
     }

@@ -6,7 +6,7 @@ use cred_event::{Event, Named};
 const DEPTH: usize = 8;
 
 /// The answers that refuse an event, named as `cred_event::Answer` has them. They are copied, and
-/// nothing has to be let go of.
+/// nothing has to be dropped.
 #[derive(Clone, Copy)]
 pub(crate) enum Due {
     Ebadf,

@@ -1,5 +1,5 @@
 use Rattle.std.proofs.Common.{is_some, sym, ap, ◌∙◌}
-use Rattle.cred_cursor.proofs.Turns.{lane_has_place}
+use Rattle.cred_course.proofs.Turns.{lane_has_place}
 use Rattle.cred_audit.specs.declared.run.Run.{Run}
 use Rattle.cred_audit.proofs.Runs.{course_is_due, run_is_sound, stops, goes_on_by}
 use Rattle.cred_audit.proofs.run.Run.next.Goals as goal

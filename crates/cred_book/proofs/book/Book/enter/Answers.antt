@@ -5,7 +5,7 @@ use Rattle.cred_event.specs.declared.entry.Entry.{Entry}
 use Rattle.cred_model.specs.Course as model
 use Rattle.cred_model.specs.Journal.{replay}
 use Rattle.cred_script.specs.Lines.{line_at}
-use Rattle.cred_cursor.specs.Cursor.{MovesOnTo}
+use Rattle.cred_course.specs.Cursor.{MovesOnTo}
 use Rattle.cred_tables.specs.Kept.{Words}
 use Rattle.cred_tables.specs.Out.{AreHome, AreOut}
 use Rattle.cred_tables.proofs.Outs.{out_like}
@@ -41,11 +41,28 @@ returns-clause-entered c =
     let number : c.line-line.result ≡ c.args.course.line = c.line-line.ensures.value in
     let entry : ℕ → Answer → Entry = λ line answer. record { line = line; event = c.args.event; answer = answer } in
     let longer = c.push_reserved.ensures.items ∙ ap (λ (js : List Entry). js ++ entry c.line-line.result c.in-Ok-step.answer ∷ []) c.in-Ok.ensures.items in
-    let made = replays b.script b.state.state c.step.new.self.state b.journal.items (entry c.line-line.result c.in-Ok-step.answer) c.self.invariant.0 c.in-Ok-step.ensures.ok in
+    let made =
+    replays b.script b.state.state c.step.new.self.state b.journal.items (entry c.line-line.result c.in-Ok-step.answer) c.self.invariant.0
+    c.in-Ok-step.ensures.ok in
     rw (← c.self.view_is)
     (let grown = longer ∙ ap (λ (answer : Answer). b.journal.items ++ entry c.line-line.result answer ∷ []) (sym made.answers)
-    ∙ ap (λ (n : ℕ). b.journal.items ++ entry n (answer_of (record { script = b.script; journal = b.journal.items; cursors = b.cursors; ended = b.ended.items; outs = b.outs.items; words = b.state.words; places = b.state.places }) n c.args.event) ∷ []) number in
-    λ k. record { script = b.script; journal = grown k; cursors = b.cursors; ended = b.ended.items; outs = b.outs.items; words = c.step.ensures.words k; places = c.step.new.self.places })
+    ∙ ap
+    (λ (n : ℕ). b.journal.items ++ entry n
+    (answer_of
+    (record { script = b.script; journal = b.journal.items; cursors = b.cursors; ended = b.ended.items; outs = b.outs.items; words = b.state.words; places = b.state.places })
+    n c.args.event)
+    ∷ [])
+    number in
+    λ k.
+    record {
+      script = b.script;
+      journal = grown k;
+      cursors = b.cursors;
+      ended = b.ended.items;
+      outs = b.outs.items;
+      words = c.step.ensures.words k;
+      places = c.step.new.self.places;
+    })
 
 pub returns-clause-passes : goal.returns-clause-passes
 returns-clause-passes c =
@@ -53,13 +70,24 @@ returns-clause-passes c =
     let number : c.line-line.result ≡ c.args.course.line = c.line-line.ensures.value in
     let entry : Entry = record { line = c.line-line.result; event = c.args.event; answer = c.in-Ok-step.answer } in
     let made = replays b.script b.state.state c.step.new.self.state b.journal.items entry c.self.invariant.0 c.in-Ok-step.ensures.ok in
-    let book : Recorded = record { script = b.script; journal = b.journal.items; cursors = b.cursors; ended = b.ended.items; outs = b.outs.items; words = b.state.words; places = b.state.places } in
+    let book : Recorded =
+    record {
+      script = b.script;
+      journal = b.journal.items;
+      cursors = b.cursors;
+      ended = b.ended.items;
+      outs = b.outs.items;
+      words = b.state.words;
+      places = b.state.places;
+    } in
     let answer : c.in-Ok-step.answer ≡ answer_of book c.args.course.line c.args.event
     = sym made.answers ∙ ap (λ (n : ℕ). answer_of book n c.args.event) number in
     let passes = subst
-    (λ (a : Answer). IfSome (line_at b.script c.args.course.line) (λ line. MovesOnTo b.script c.args.lane (model.after line.content c.args.course a) c.cursor_after-cursor.result))
+    (λ (a : Answer). IfSome (line_at b.script c.args.course.line)
+    (λ line. MovesOnTo b.script c.args.lane (model.after line.content c.args.course a) c.cursor_after-cursor.result))
     answer c.cursor_after-cursor.ensures in
     subst
     (λ (r : Recorded). IfSome (line_at r.script c.args.course.line)
-    (λ line. MovesOnTo r.script c.args.lane (model.after line.content c.args.course (answer_of r c.args.course.line c.args.event)) c.cursor_after-cursor.result))
+    (λ line. MovesOnTo r.script c.args.lane (model.after line.content c.args.course (answer_of r c.args.course.line c.args.event))
+    c.cursor_after-cursor.result))
     c.self.view_is passes

@@ -9,7 +9,7 @@ use Rattle.cred_model.specs.Journal.{replay}
 use Rattle.cred_model.specs.Like.{GivesLike}
 use Rattle.cred_model.specs.Step.{done}
 use Rattle.cred_script.specs.Lines.{line_at}
-use Rattle.cred_cursor.specs.Cursor.{MovesOnTo}
+use Rattle.cred_course.specs.Cursor.{MovesOnTo}
 use Rattle.cred_work.specs.Decisions.{IsRight, work_event}
 use Rattle.cred_model.specs.Named.{event_files}
 use Rattle.cred_model.specs.State.{info_of}
@@ -42,7 +42,9 @@ invariant_of-self-in-Ok-enter c =
     let taken : AreTaken (entries_of w.lent) b.state.words.out c.enter.new.self.words.out
     = subst (λ (l : Lent). AreTaken (entries_of l) b.state.words.out c.enter.new.self.words.out) lent c.in-Ok-enter.ensures.taken in
     let its : work_event c.apart-asked.result.1 ≡ work_event w.lent = ap work_event lent in
-    let chain = subst (λ (l : Lent). IsChain b.script l w.chain) (sym lent) (subst (λ (r : Recorded). IsChain r.script w.lent w.chain) (sym c.self.view_is) c.requires.of.chain) in
+    let chain =
+    subst (λ (l : Lent). IsChain b.script l w.chain) (sym lent)
+    (subst (λ (r : Recorded). IsChain r.script w.lent w.chain) (sym c.self.view_is) c.requires.of.chain) in
     let file : w.file ≡ info_of b.state.state.infos (event_files (work_event w.lent))
     = c.requires.of.file
     ∙ ap (λ (r : Recorded). info_of (infos_in r) (event_files (work_event w.lent))) (sym c.self.view_is)
@@ -57,7 +59,8 @@ invariant_of-self-in-Ok-enter c =
     ∙ ap (λ (js : List Entry). js ++ entry c.line-line.result c.event-event.result c.in-Ok-enter.answer ∷ []) c.reserve.ensures.items
     ∙ ap (λ (n : ℕ). b.journal.items ++ entry n c.event-event.result c.in-Ok-enter.answer ∷ []) line
     ∙ ap (λ (e : Event). b.journal.items ++ entry w.line e c.in-Ok-enter.answer ∷ []) entered in (
-      enters b.script b.state.state c.enter.new.self.state b.journal.items c.push_reserved.new.self.items (entry w.line (work_event w.lent) c.in-Ok-enter.answer)
+      enters b.script b.state.state c.enter.new.self.state b.journal.items c.push_reserved.new.self.items
+          (entry w.line (work_event w.lent) c.in-Ok-enter.answer)
           c.self.invariant.0 ok longer,
       out_left b.script b.journal.items c.push_reserved.new.self.items (entry w.line (work_event w.lent) c.in-Ok-enter.answer) b.state.words.out
           c.enter.new.self.words.out (lent_waits w.lent)
@@ -77,7 +80,9 @@ returns-in-Ok-enter-clause-entered c =
     let back : AreBack (entries_of w.lent) b.state.words c.enter.new.self.words
     = subst (λ (l : Lent). AreBack (entries_of l) b.state.words c.enter.new.self.words) lent c.in-Ok-enter.ensures.back in
     let its : work_event c.apart-asked.result.1 ≡ work_event w.lent = ap work_event lent in
-    let chain = subst (λ (l : Lent). IsChain b.script l w.chain) (sym lent) (subst (λ (r : Recorded). IsChain r.script w.lent w.chain) (sym c.self.view_is) c.requires.of.chain) in
+    let chain =
+    subst (λ (l : Lent). IsChain b.script l w.chain) (sym lent)
+    (subst (λ (r : Recorded). IsChain r.script w.lent w.chain) (sym c.self.view_is) c.requires.of.chain) in
     let file : w.file ≡ info_of b.state.state.infos (event_files (work_event w.lent))
     = c.requires.of.file
     ∙ ap (λ (r : Recorded). info_of (infos_in r) (event_files (work_event w.lent))) (sym c.self.view_is)
@@ -92,7 +97,8 @@ returns-in-Ok-enter-clause-entered c =
     ∙ ap (λ (js : List Entry). js ++ entry c.line-line.result c.event-event.result c.in-Ok-enter.answer ∷ []) c.reserve.ensures.items
     ∙ ap (λ (n : ℕ). b.journal.items ++ entry n c.event-event.result c.in-Ok-enter.answer ∷ []) line
     ∙ ap (λ (e : Event). b.journal.items ++ entry w.line e c.in-Ok-enter.answer ∷ []) entered in
-    let made = replays b.script b.state.state c.enter.new.self.state b.journal.items (entry w.line (work_event w.lent) c.in-Ok-enter.answer) c.self.invariant.0 ok in
+    let made =
+    replays b.script b.state.state c.enter.new.self.state b.journal.items (entry w.line (work_event w.lent) c.in-Ok-enter.answer) c.self.invariant.0 ok in
     let grown = longer ∙ ap (λ (answer : Answer). b.journal.items ++ entry w.line (work_event w.lent) answer ∷ []) (sym made.answers) in
     rw (← c.self.view_is)
     (record {
@@ -116,7 +122,9 @@ returns-in-Ok-enter-clause-passes c =
     let apart = c.apart-asked.ensures in
     let lent : c.apart-asked.result.1 ≡ w.lent = ap (λ (x : Work). x.lent) (sym apart) in
     let its : work_event c.apart-asked.result.1 ≡ work_event w.lent = ap work_event lent in
-    let chain = subst (λ (l : Lent). IsChain b.script l w.chain) (sym lent) (subst (λ (r : Recorded). IsChain r.script w.lent w.chain) (sym c.self.view_is) c.requires.of.chain) in
+    let chain =
+    subst (λ (l : Lent). IsChain b.script l w.chain) (sym lent)
+    (subst (λ (r : Recorded). IsChain r.script w.lent w.chain) (sym c.self.view_is) c.requires.of.chain) in
     let file : w.file ≡ info_of b.state.state.infos (event_files (work_event w.lent))
     = c.requires.of.file
     ∙ ap (λ (r : Recorded). info_of (infos_in r) (event_files (work_event w.lent))) (sym c.self.view_is)
@@ -140,9 +148,11 @@ returns-in-Ok-enter-clause-passes c =
     let answer : c.in-Ok-enter.answer ≡ answer_of book c.args.course.line (work_event w.lent)
     = sym made.answers ∙ ap (λ (n : ℕ). answer_of book n (work_event w.lent)) (sym c.requires.number) in
     let passes = subst
-    (λ (a : Answer). IfSome (line_at b.script c.args.course.line) (λ line. MovesOnTo b.script c.args.lane (model.after line.content c.args.course a) c.cursor_after-cursor.result))
+    (λ (a : Answer). IfSome (line_at b.script c.args.course.line)
+    (λ line. MovesOnTo b.script c.args.lane (model.after line.content c.args.course a) c.cursor_after-cursor.result))
     answer c.cursor_after-cursor.ensures in
     subst
     (λ (r : Recorded). IfSome (line_at r.script c.args.course.line)
-    (λ line. MovesOnTo r.script c.args.lane (model.after line.content c.args.course (answer_of r c.args.course.line (work_event w.lent))) c.cursor_after-cursor.result))
+    (λ line. MovesOnTo r.script c.args.lane (model.after line.content c.args.course (answer_of r c.args.course.line (work_event w.lent)))
+    c.cursor_after-cursor.result))
     c.self.view_is passes

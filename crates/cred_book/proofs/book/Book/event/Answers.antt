@@ -48,7 +48,16 @@ returns-clause-entered c =
     let made = replays b.script b.state.state c.step.new.self.state b.journal.items (entry c.in-Ok-step.answer) c.self.invariant.0 c.in-Ok-step.ensures.ok in
     rw (← c.self.view_is)
     (let grown = longer ∙ ap (λ (answer : Answer). b.journal.items ++ entry answer ∷ []) (sym made.answers) in
-    λ k. record { script = b.script; journal = grown k; cursors = b.cursors; ended = b.ended.items; outs = b.outs.items; words = c.step.ensures.words k; places = c.step.new.self.places })
+    λ k.
+    record {
+      script = b.script;
+      journal = grown k;
+      cursors = b.cursors;
+      ended = b.ended.items;
+      outs = b.outs.items;
+      words = c.step.ensures.words k;
+      places = c.step.new.self.places;
+    })
 
 pub returns-clause-answer : goal.returns-clause-answer
 returns-clause-answer c =

@@ -2,8 +2,8 @@ use Rattle.std.proofs.Common.{◌≡◌, ◌<◌, length, get_or, Option, Some, 
 use Rattle.cred_ids.specs.Limits.{LINE_LIMIT}
 use Rattle.cred_model.specs.Course.{Course}
 use Rattle.cred_model.specs.Journal.{replay}
-use Rattle.cred_cursor.specs.LaneCursors.{due_of}
-use Rattle.cred_cursor.proofs.Turns.{lane_has_place}
+use Rattle.cred_course.specs.LaneCursors.{due_of}
+use Rattle.cred_course.proofs.Turns.{lane_has_place}
 use Rattle.cred_tables.specs.Out.{AreOut}
 use Rattle.cred_work.specs.Decisions.{work_event}
 use Rattle.cred_book.specs.Book.{Recorded}

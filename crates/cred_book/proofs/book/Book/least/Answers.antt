@@ -1,5 +1,5 @@
 use Rattle.std.proofs.Common.{MatchOption, subst}
-use Rattle.cred_cursor.specs.LaneCursors.{AreOver, IsLeast}
+use Rattle.cred_course.specs.LaneCursors.{AreOver, IsLeast}
 use Rattle.cred_book.specs.Book.{Recorded}
 use Rattle.cred_book.specs.Cursor.{IsLeastLane, NoLineIsLeft}
 use Rattle.cred_book.proofs.Cursors.{least_by}

@@ -35,7 +35,8 @@ invariant_of-self-2 c =
     let tokens : entries_of lent ≡ tokens_in b.state.state c.args.event.now = c.in_ok-lent.ensures.tokens in (
       (
         subst (λ (t : State). IsLike t s) (sym (ap (λ (x : Standing). x.state) is))
-            (like_trans (with_lent b.state lent).state b.state.state s (like_lent b.state lent sound (tokens ∙ ap (tokens_in b.state.state) (sym c.in_ok-lent.ensures.of.1))) c.self.invariant.0.0),
+            (like_trans (with_lent b.state lent).state b.state.state s
+            (like_lent b.state lent sound (tokens ∙ ap (tokens_in b.state.state) (sym c.in_ok-lent.ensures.of.1))) c.self.invariant.0.0),
         c.self.invariant.0.1,
       ),
       subst (AreOut s) (sym (ap (λ (x : Standing). x.words.out) is ∙ words_lent b.state lent))

@@ -17,7 +17,16 @@ returns-else-has_ended c =
     let b = c.self.inside in
     let not : has_left c.args.cursor c.args.line ≡ false = sym c.has_left-has_ended.ensures ∙ c.if-has_ended.false in
     let seen : List (Option Course) → List ℕ → Recorded
-    = λ cursors ended. record { script = b.script; journal = b.journal.items; cursors = cursors; ended = ended; outs = b.outs.items; words = b.state.words; places = b.state.places } in
+    = λ cursors ended.
+    record {
+      script = b.script;
+      journal = b.journal.items;
+      cursors = cursors;
+      ended = ended;
+      outs = b.outs.items;
+      words = b.state.words;
+      places = b.state.places;
+    } in
     ap (λ cursors. seen cursors b.ended.items) c.move_on.ensures
     ∙ ap (seen (set b.cursors c.args.lane c.args.cursor)) (sym (number_stays b.ended.items c.args.lane (has_left c.args.cursor c.args.line) not))
     ∙ ap (λ (r : Recorded). moved_on r c.args.lane c.args.line c.args.cursor) c.self.view_is

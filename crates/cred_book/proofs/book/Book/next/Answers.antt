@@ -8,9 +8,9 @@ use Rattle.cred_model.specs.Course.{Course, event_at}
 use Rattle.cred_model.specs.Journal.{replay}
 use Rattle.cred_model.specs.Named.{IsEventOf}
 use Rattle.cred_script.specs.Lines.{line_at}
-use Rattle.cred_cursor.specs.Cursor.{IsOfLine, MovesOnTo}
-use Rattle.cred_cursor.specs.LaneCursors.{due_of}
-use Rattle.cred_cursor.proofs.Turns.{lane_has_place}
+use Rattle.cred_course.specs.Cursor.{IsOfLine, MovesOnTo}
+use Rattle.cred_course.specs.LaneCursors.{due_of}
+use Rattle.cred_course.proofs.Turns.{lane_has_place}
 use Rattle.cred_work.specs.Work.{Work}
 use Rattle.cred_tables.specs.Kept.{Words}
 use Rattle.cred_tables.specs.Out.{AreHome, needs_tokens}
@@ -49,7 +49,9 @@ next_event-requires c =
     let here : due_of book.cursors c.args.lane ≡ Some c.in-Some.course
     = due_found _ book c.args.lane _ _ c.self.view_is c.due.ensures c.in-Some.is in
     record {
-      line = subst (λ (b : Recorded). IsOfLine b.script c.in-Some.course) (sym c.self.view_is) (due_of_line book c.args.lane c.in-Some.course c.requires.stands here);
+      line =
+          subst (λ (b : Recorded). IsOfLine b.script c.in-Some.course) (sym c.self.view_is)
+          (due_of_line book c.args.lane c.in-Some.course c.requires.stands here);
     }
 
 pub hand_out-requires-clause-home : goal.hand_out-requires-clause-home

@@ -6,9 +6,9 @@ use Rattle.cred_cases.proofs.tests.hold.seal.Goals as goal
 
 pub returns-clause-master : goal.returns-clause-master
 returns-clause-master c =
-    let lent = ap length c.lend_writer-writer.ensures.entries in
+    let lent = ap length c.lend_writer-writer.ensures.loans in
     let none = ap length c.requires.none in
-    let back = taken-length c.lend_writer-writer.new.self.entries _ c.take_back.new.self.entries c.take_back.ensures.entry in
+    let back = taken-length c.lend_writer-writer.new.self.loans _ c.take_back.new.self.loans c.take_back.ensures.taken in
     (c.take_back.ensures.same ∙ c.lend_writer-writer.ensures.same, none-left _ (omega arith))
 
 pub returns-clause-others : goal.returns-clause-others

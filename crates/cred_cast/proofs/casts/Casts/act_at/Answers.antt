@@ -8,14 +8,16 @@ pub returns-then-left-eq0-clause-left : goal.returns-then-left-eq0-clause-left
 returns-then-left-eq0-clause-left c =
     let casts = c.self.inside.casts.items in
     rw (← c.self.view_is)
-    (left_beside casts c.args.task c.args.place c.index_mut-cast.result.now c.self.invariant (rw (← c.self.view_is) at c.requires) c.index_mut-cast.ensures.value
+    (left_beside casts c.args.task c.args.place c.index_mut-cast.result.now c.self.invariant (rw (← c.self.view_is) at c.requires)
+    c.index_mut-cast.ensures.value
     c.others-left.result c.others-left.ensures)
 
 pub returns-else-left-eq0-clause-left : goal.returns-else-left-eq0-clause-left
 returns-else-left-eq0-clause-left c =
     let casts = c.self.inside.casts.items in
     rw (← c.self.view_is)
-    (left_beside casts c.args.task c.args.place c.index_mut-cast.result.now c.self.invariant (rw (← c.self.view_is) at c.requires) c.index_mut-cast.ensures.value
+    (left_beside casts c.args.task c.args.place c.index_mut-cast.result.now c.self.invariant (rw (← c.self.view_is) at c.requires)
+    c.index_mut-cast.ensures.value
     c.others-left.result c.others-left.ensures)
 
 pub returns-then-left-eq0-clause-casts : goal.returns-then-left-eq0-clause-casts
@@ -23,7 +25,8 @@ returns-then-left-eq0-clause-casts c =
     let casts = c.self.inside.casts.items in
     rw (← c.self.view_is)
     (c.close.ensures
-    ∙ left_closed casts c.args.task c.args.place c.index_mut-cast.result.now c.self.invariant (rw (← c.self.view_is) at c.requires) c.index_mut-cast.ensures.value
+    ∙ left_closed casts c.args.task c.args.place c.index_mut-cast.result.now c.self.invariant (rw (← c.self.view_is) at c.requires)
+    c.index_mut-cast.ensures.value
     c.others-left.result c.others-left.ensures c.step.new.self c.step.ensures c.if-left-eq0.true)
 
 pub returns-else-left-eq0-clause-casts : goal.returns-else-left-eq0-clause-casts
@@ -38,7 +41,8 @@ invariant_of-self c =
     let casts = c.self.inside.casts.items in
     let left
     = c.close.ensures
-    ∙ left_closed casts c.args.task c.args.place c.index_mut-cast.result.now c.self.invariant (rw (← c.self.view_is) at c.requires) c.index_mut-cast.ensures.value
+    ∙ left_closed casts c.args.task c.args.place c.index_mut-cast.result.now c.self.invariant (rw (← c.self.view_is) at c.requires)
+    c.index_mut-cast.ensures.value
     c.others-left.result c.others-left.ensures c.step.new.self c.step.ensures c.if-left-eq0.true in
     subst AreCasts (sym left) (are_left c.args.task casts c.self.invariant)
 

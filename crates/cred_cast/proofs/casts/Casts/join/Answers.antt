@@ -33,7 +33,8 @@ invariant_of-self c =
     by_result (AreCasts (set casts c.in-Some.place now)) c.join.result c.join.ensures.ok c.join.ensures.err
     (λ joins.
     subst AreCasts
-    (sym (joined_place c.args.parent c.args.child casts c.in-Some.place cast now c.self.invariant.apart (sym place ∙ c.in-Some.is) c.index_mut.ensures.value joins))
+    (sym
+    (joined_place c.args.parent c.args.child casts c.in-Some.place cast now c.self.invariant.apart (sym place ∙ c.in-Some.is) c.index_mut.ensures.value joins))
     (are_joined c.args.parent c.args.child casts (rw (← c.self.view_is) at c.requires) c.self.invariant))
     (λ same.
     subst AreCasts (sym (ap (set casts c.in-Some.place) (same ∙ c.index_mut.ensures.value) ∙ set-get_or casts c.in-Some.place cast))

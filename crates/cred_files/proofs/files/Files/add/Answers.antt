@@ -1,7 +1,7 @@
 use Rattle.std.proofs.Common.{◌<◌, ◌∙◌, is_some, length}
 use Rattle.cred_ids.specs.Limits.{OPEN_FILES}
 use Rattle.indexmap.proofs.CallerLemmas.{insert_entry-new}
-use Rattle.cred_files.specs.declared.file.File.{File}
+use Rattle.cred_files.specs.declared.open_file.File.{File}
 use Rattle.cred_files.specs.Open.{open_files}
 use Rattle.cred_files.proofs.Kept.{is_new, opened, still_open}
 use Rattle.cred_files.proofs.files.Files.add.Goals as goal

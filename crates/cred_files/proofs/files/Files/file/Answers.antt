@@ -1,6 +1,6 @@
 use Rattle.std.proofs.Common.{◌≡◌, ℕ, ◌∙◌, sym, ap, refl, Option, None, Some, Bor}
 use Rattle.std.specs.Option.{option_map, option_copied}
-use Rattle.cred_files.specs.declared.file.File.{File}
+use Rattle.cred_files.specs.declared.open_file.File.{File}
 use Rattle.cred_files.specs.Open.{file_as}
 use Rattle.cred_files.proofs.Kept.{file_at-files_of}
 use Rattle.cred_files.proofs.files.Files.file.Goals as goal

@@ -9,8 +9,8 @@ pub returns-clause-made : goal.returns-clause-made
 returns-clause-made c =
     let lent = c.lend_writer-writer.ensures in
     let back = c.take_back.ensures in
-    let P : List Loan × Loan → Type 0 = λ x. IsTaken x.0 x.1 c.take_back.new.self.entries in
-    let taken = subst P (λ k. (lent.entries k, loan (lent.writer.1 k) (lent.writer.2 k) None)) back.entry in
-    let entries = taken_alone (loan 0 c.args.slot None) c.args.self.now.entries _ c.requires.alone taken in
+    let P : List Loan × Loan → Type 0 = λ x. IsTaken x.0 x.1 c.take_back.new.self.loans in
+    let taken = subst P (λ k. (lent.loans k, loan (lent.writer.1 k) (lent.writer.2 k) None)) back.taken in
+    let loans = taken_alone (loan 0 c.args.slot None) c.args.self.now.loans _ c.requires.alone taken in
     let slots = back.slots ∙ (λ k. set (lent.slots k) (lent.writer.2 k) (lent.writer.3 k)) ∙ set-set _ _ _ _ in
-    λ k. record { id = (back.same ∙ lent.same) k; entries = entries k; slots = slots k }
+    λ k. record { id = (back.same ∙ lent.same) k; loans = loans k; slots = slots k }

@@ -12,7 +12,7 @@ lend_writer-requires-clause-within c = let n = count_is in let small = c.require
 
 pub lend_writer-requires-clause-alone : goal.lend_writer-requires-clause-alone
 lend_writer-requires-clause-alone c =
-    alone-seen c.self.inside.inner.ledger.entries c.args.slot (subst (λ es. IsAlone es c.args.slot) (sym (ap (λ m. m.entries) c.self.view_is)) c.requires.alone)
+    alone-seen c.self.inside.inner.ledger.loans c.args.slot (subst (λ es. IsAlone es c.args.slot) (sym (ap (λ m. m.loans) c.self.view_is)) c.requires.alone)
 
 pub invariant_of-self : goal.invariant_of-self
 invariant_of-self c =
@@ -20,8 +20,13 @@ invariant_of-self c =
     let e = c.lend_writer.ensures.master in
     let n = count_is in
     let small = c.requires.within in
-    let many = i.2 in
-    (ap (λ (d : Ledger). d.kept) e.1 ∙ i.0, subst AreSlots (sym (ap (λ (d : Ledger). d.slots) e.1)) (after_writer c.self.inside.inner.ledger.slots c.args.slot (omega arith) i.1).0, ap (λ (d : Ledger). length d.slots) e.1 ∙ length-set _ _ _ ∙ i.2)
+    let many = i.2 in (
+      ap (λ (d : Ledger). d.kept) e.1
+          ∙ i.0,
+      subst AreSlots (sym (ap (λ (d : Ledger). d.slots) e.1)) (after_writer c.self.inside.inner.ledger.slots c.args.slot (omega arith) i.1).0,
+      ap (λ (d : Ledger). length d.slots) e.1
+          ∙ length-set _ _ _ ∙ i.2,
+    )
 
 pub invariant_of-result : goal.invariant_of-result
 invariant_of-result c =

@@ -12,8 +12,8 @@ returns-clause-made c =
     let slot = ap (λ (w : Written). w.slot) c.put.ensures ∙ lent.writer.2 in
     let put = ap (λ (w : Written). w.put) c.put.ensures in
     let back = c.take_back.ensures in
-    let P : List Loan × Loan → Type 0 = λ x. IsTaken x.0 x.1 c.take_back.new.self.entries in
-    let taken = subst P (λ k. (lent.entries k, loan (label k) (slot k) None)) back.entry in
-    let entries = taken_alone (loan 0 c.args.slot None) c.args.self.now.entries _ c.requires.alone taken in
+    let P : List Loan × Loan → Type 0 = λ x. IsTaken x.0 x.1 c.take_back.new.self.loans in
+    let taken = subst P (λ k. (lent.loans k, loan (label k) (slot k) None)) back.taken in
+    let loans = taken_alone (loan 0 c.args.slot None) c.args.self.now.loans _ c.requires.alone taken in
     let slots = back.slots ∙ (λ k. set (lent.slots k) (slot k) (put k)) ∙ set-set _ _ _ _ in
-    λ k. record { id = (back.same ∙ lent.same) k; entries = entries k; slots = slots k }
+    λ k. record { id = (back.same ∙ lent.same) k; loans = loans k; slots = slots k }

@@ -9,10 +9,12 @@ pub returns-clause-legal : goal.returns-clause-legal
 returns-clause-legal g c =
     let script = g.K.Name.script in
     subst (λ (entries : List Entry). IsLegal script entries) (sym c.into_journal.ensures.entries)
-    (close_is_legal script g.K.Name.roll g.K.Name.cells g.K.Name.infos c.book.inside.book c.book.inside.roll c.args.turns c.book.invariant c.take_all.ensures c.requires.all c.requires.ended)
+    (close_is_legal script g.K.Name.roll g.K.Name.cells g.K.Name.infos c.book.inside.book c.book.inside.roll c.args.turns c.book.invariant c.take_all.ensures
+    c.requires.all c.requires.ended)
 
 pub returns-clause-counts : goal.returns-clause-counts
 returns-clause-counts g c =
     let script = g.K.Name.script in
     subst (λ (entries : List Entry). AreCounted script entries c.args.turns) (sym c.into_journal.ensures.entries)
-    (close_counts script g.K.Name.roll g.K.Name.cells g.K.Name.infos c.book.inside.book c.book.inside.roll c.args.turns c.book.invariant c.take_all.ensures c.requires.all)
+    (close_counts script g.K.Name.roll g.K.Name.cells g.K.Name.infos c.book.inside.book c.book.inside.roll c.args.turns c.book.invariant c.take_all.ensures
+    c.requires.all)

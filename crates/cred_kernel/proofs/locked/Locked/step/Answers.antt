@@ -45,7 +45,8 @@ invariant_of-self g c =
     (moved book after lane numbers (next book.script book.journal lane) step was home c.next-step.ensures.script
     c.next-step.ensures.made c.next-step.ensures.counts c.next-step.ensures.err) in
     let not_setup : lane ≢ 0 = λ zero. omega (arith, zero, c.turn.invariant.is_lane.0) in
-    locked_after g.K.Name.script g.K.Name.roll g.K.Name.cells g.K.Name.infos book after c.self.inside.roll c.take-2.new.self c.lend.new.self c.in-Some.pass lane numbers now
+    locked_after g.K.Name.script g.K.Name.roll g.K.Name.cells g.K.Name.infos book after c.self.inside.roll c.take-2.new.self c.lend.new.self c.in-Some.pass lane
+    numbers now
     c.self.invariant its c.next-step.ensures.script c.next-step.ensures.cells (c.next-step.ensures.files not_setup) c.next-step.ensures.stands back
     c.take-2.ensures.lane c.take-2.ensures.roll c.lend.ensures.roll
 

@@ -1,7 +1,7 @@
 use Rattle.std.proofs.Common.{◌≡◌, false, length, sym, subst, ◌∙◌}
 use Rattle.cred_event.specs.declared.answer.Answer.{Answer}
 use Rattle.cred_model.specs.State.{State}
-use Rattle.cred_machine.specs.Kept.{KeepsReferred, may_let_go}
+use Rattle.cred_machine.specs.Kept.{KeepsReferred, may_have_dropped}
 use Rattle.cred_machine.proofs.Forgetting.{gives_like, still_referred}
 use Rattle.cred_machine.proofs.KeptByEvents.{Keeps}
 use Rattle.cred_machine.proofs.NothingIsLost.{counted, keeps}
@@ -21,8 +21,8 @@ forget_if-requires c = λ unswept.
     let s = c.self.inside.state in
     let t = c.make.new.self in
     let event = c.args.event.now in
-    let test : may_let_go event (length s.deferred) c.in_ok-answer.answer (length t.deferred) ≡ false
-    = rw (← c.given_up-before.ensures, ← c.given_up.ensures) (sym c.may_let_go-swept.ensures ∙ unswept) in
+    let test : may_have_dropped event (length s.deferred) c.in_ok-answer.answer (length t.deferred) ≡ false
+    = rw (← c.given_up-before.ensures, ← c.given_up.ensures) (sym c.may_have_dropped-swept.ensures ∙ unswept) in
     still_referred s t event c.in_ok-answer.answer
     (subst (λ (made : Answer × State). Keeps s (counted event made)) c.in_ok-answer.ensures.ok
     (keeps c.args.script.now s c.args.line event (rw (← c.self.view_is) at c.requires.sound)))

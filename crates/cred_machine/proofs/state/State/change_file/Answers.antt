@@ -1,7 +1,7 @@
 use Rattle.std.proofs.Common.{sym, ap, ◌∙◌}
 use Rattle.std.specs.Option.{option_copied}
 use Rattle.std.proofs.lemmas.Option.{slice_get_within}
-use Rattle.cred_model.specs.Changing.{changed_by}
+use Rattle.cred_model.specs.FileChanges.{changed_by}
 use Rattle.cred_plain.specs.Creds.{seen_numbered}
 use Rattle.cred_plain.proofs.Places.{none_is}
 use Rattle.cred_machine.proofs.Seen.{seen_state}

@@ -1,5 +1,5 @@
 use Rattle.std.proofs.Common.{◌≡◌, ℕ, List, [], if◌then◌else◌, refl, ap}
-use Rattle.cred_machine.specs.Room.{at_abort}
+use Rattle.cred_model.specs.Moves.{at_abort}
 use Rattle.cred_machine.proofs.Leads.{process_ended}
 use Rattle.cred_machine.proofs.Seen.{seen_state}
 use Rattle.cred_machine.proofs.Unchanged.{on_err}

@@ -9,13 +9,15 @@ pub returns-in-Some-begun_by-clause-ok : goal.returns-in-Some-begun_by-clause-ok
 returns-in-Some-begun_by-clause-ok c =
     let s = seen_state c.self.inside in
     rw (← c.self.view_is)
-    (exit_busy s c.args.task c.in-Some.owner.now (Busy c.in-Some-begun_by.cast) (sym c.in-Some.ensures) (busy_at s _ c.args.task _ c.deref.ensures.value c.in-Some-begun_by.ensures))
+    (exit_busy s c.args.task c.in-Some.owner.now (Busy c.in-Some-begun_by.cast) (sym c.in-Some.ensures)
+    (busy_at s _ c.args.task _ c.deref.ensures.value c.in-Some-begun_by.ensures))
 
 pub returns-clause-ok : goal.returns-clause-ok
 returns-clause-ok c =
     let s = seen_state c.self.inside in
     let o = seen_task c.owner.inside in
     rw (← c.self.view_is)
-    (exit_leads s c.args.task o _ _ _ _ _ _ (rw (← c.owner.view_is) at (sym c.in-Some.ensures)) (busy_at s _ c.args.task _ c.deref.ensures.value c.in_default-begun_by.ensures)
+    (exit_leads s c.args.task o _ _ _ _ _ _ (rw (← c.owner.view_is) at (sym c.in-Some.ensures))
+    (busy_at s _ c.args.task _ c.deref.ensures.value c.in_default-begun_by.ensures)
     (rw (← c.owner.view_is) at c.in_default-overridden.ensures) c.end.ensures c.leave.ensures c.in_ok-defer_left.ensures.ok refl
     c.leave-2.ensures c.has_other-other.ensures)

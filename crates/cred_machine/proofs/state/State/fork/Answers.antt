@@ -18,21 +18,26 @@ returns-in-Some-begun_by-clause-ok c =
     let s = seen_state c.self.inside in
     let o = seen_task c.owner.inside in
     rw (← c.self.view_is)
-    (fork_busy s c.args.task c.args.child c.args.process o (seen_numbered c.in-Some-get.field-0) (rw (← c.owner.view_is) at (sym c.in-Some.ensures)) (sym c.in-Some-get.ensures) (Busy c.in-Some-begun_by.cast) (busy_at s _ c.args.task _ c.deref.ensures.value c.in-Some-begun_by.ensures))
+    (fork_busy s c.args.task c.args.child c.args.process o (seen_numbered c.in-Some-get.field-0) (rw (← c.owner.view_is) at (sym c.in-Some.ensures))
+    (sym c.in-Some-get.ensures) (Busy c.in-Some-begun_by.cast) (busy_at s _ c.args.task _ c.deref.ensures.value c.in-Some-begun_by.ensures))
 
 pub returns-then-has_process-clause-ok : goal.returns-then-has_process-clause-ok
 returns-then-has_process-clause-ok c =
     let s = seen_state c.self.inside in
     let o = seen_task c.owner.inside in
     rw (← c.self.view_is)
-    (fork_used s c.args.task c.args.child c.args.process o (seen_numbered c.in-Some-get.field-0) (rw (← c.owner.view_is) at (sym c.in-Some.ensures)) (sym c.in-Some-get.ensures) (busy_at s _ c.args.task _ c.deref.ensures.value c.in_default-begun_by.ensures) (none_by_test _ c.alive.result c.alive.ensures c.if-alive.false) (sym c.has_process.ensures ∙ c.if-has_process.true))
+    (fork_used s c.args.task c.args.child c.args.process o (seen_numbered c.in-Some-get.field-0) (rw (← c.owner.view_is) at (sym c.in-Some.ensures))
+    (sym c.in-Some-get.ensures) (busy_at s _ c.args.task _ c.deref.ensures.value c.in_default-begun_by.ensures)
+    (none_by_test _ c.alive.result c.alive.ensures c.if-alive.false) (sym c.has_process.ensures ∙ c.if-has_process.true))
 
 pub returns-in-Some-overridden-clause-ok : goal.returns-in-Some-overridden-clause-ok
 returns-in-Some-overridden-clause-ok c =
     let s = seen_state c.self.inside in
     let o = seen_task c.owner.inside in
     rw (← c.self.view_is)
-    (fork_overridden s c.args.task c.args.child c.args.process o (seen_numbered c.in-Some-get.field-0) (rw (← c.owner.view_is) at (sym c.in-Some.ensures)) (sym c.in-Some-get.ensures) (busy_at s _ c.args.task _ c.deref.ensures.value c.in_default-begun_by.ensures) (none_by_test _ c.alive.result c.alive.ensures c.if-alive.false) (Overridden c.in-Some-overridden.depth)
+    (fork_overridden s c.args.task c.args.child c.args.process o (seen_numbered c.in-Some-get.field-0) (rw (← c.owner.view_is) at (sym c.in-Some.ensures))
+    (sym c.in-Some-get.ensures) (busy_at s _ c.args.task _ c.deref.ensures.value c.in_default-begun_by.ensures)
+    (none_by_test _ c.alive.result c.alive.ensures c.if-alive.false) (Overridden c.in-Some-overridden.depth)
     (none_by_test _ c.has_process.result c.has_process.ensures c.if-has_process.false) (rw (← c.owner.view_is) at c.in-Some-overridden.ensures))
 
 pub returns-clause-ok : goal.returns-clause-ok
@@ -83,7 +88,8 @@ returns-then-alive-clause-ok c =
     let s = seen_state c.self.inside in
     let o = seen_task c.owner.inside in
     rw (← c.self.view_is)
-    (fork_exists s c.args.task c.args.child c.args.process o (seen_numbered c.in-Some-get.field-0) (rw (← c.owner.view_is) at (sym c.in-Some.ensures)) (sym c.in-Some-get.ensures)
+    (fork_exists s c.args.task c.args.child c.args.process o (seen_numbered c.in-Some-get.field-0) (rw (← c.owner.view_is) at (sym c.in-Some.ensures))
+    (sym c.in-Some-get.ensures)
     (busy_at s _ c.args.task _ c.deref.ensures.value c.in_default-begun_by.ensures) (sym c.alive.ensures ∙ c.if-alive.true))
 
 pub returns-then-full-clause-ok : goal.returns-then-full-clause-ok
@@ -91,6 +97,8 @@ returns-then-full-clause-ok c =
     let s = seen_state c.self.inside in
     let o = seen_task c.owner.inside in
     rw (← c.self.view_is)
-    (fork_full s c.args.task c.args.child c.args.process o (seen_numbered c.in-Some-get.field-0) (rw (← c.owner.view_is) at (sym c.in-Some.ensures)) (sym c.in-Some-get.ensures)
-    (busy_at s _ c.args.task _ c.deref.ensures.value c.in_default-begun_by.ensures) (none_by_test _ c.alive.result c.alive.ensures c.if-alive.false) (none_by_test _ c.has_process.result c.has_process.ensures c.if-has_process.false) (rw (← c.owner.view_is) at c.in_default-overridden.ensures)
+    (fork_full s c.args.task c.args.child c.args.process o (seen_numbered c.in-Some-get.field-0) (rw (← c.owner.view_is) at (sym c.in-Some.ensures))
+    (sym c.in-Some-get.ensures)
+    (busy_at s _ c.args.task _ c.deref.ensures.value c.in_default-begun_by.ensures) (none_by_test _ c.alive.result c.alive.ensures c.if-alive.false)
+    (none_by_test _ c.has_process.result c.has_process.ensures c.if-has_process.false) (rw (← c.owner.view_is) at c.in_default-overridden.ensures)
     (is_full _ c.full.result c.full.ensures c.if-full.true))

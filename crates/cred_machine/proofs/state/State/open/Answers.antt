@@ -24,7 +24,8 @@ returns-in_err-open_cast-clause-err c =
 pub returns-clause-ok : goal.returns-clause-ok
 returns-clause-ok c =
     rw (← c.self.view_is, ← c.cast.view_is)
-    (opens (seen_state c.self.inside) (seen_cast c.cast.inside) c.args.old _ c.args.other c.in-Some.slot c.in_ok-slot.field-0.swept c.in-Ok.number c.len-left.result _
+    (opens (seen_state c.self.inside) (seen_cast c.cast.inside) c.args.old _ c.args.other c.in-Some.slot c.in_ok-slot.field-0.swept c.in-Ok.number
+    c.len-left.result _
     (seen_state c.self-2.inside) _
     (rw (← c.self.view_is) at (sym c.in_ok-slot.ensures.slot ∙ c.in-Some.is)) (rw (← c.self.view_is) at c.in_ok-slot.ensures.swept)
     c.in-Ok.ensures.number (omega (arith, c.len-left.ensures, c.cast.inside.waiting.ok)) (rw (← c.cast.view_is) at c.in_ok-open_cast.ensures.ok)

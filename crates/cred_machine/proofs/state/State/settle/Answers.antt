@@ -20,7 +20,8 @@ returns-clause-ok c =
     = rw (← c.last.view_is) at (found_is _ c.as_ref.result _ c.unwrap-last.result c.as_ref.ensures.value c.unwrap-last.ensures) in
     let is : IsChanged s c.args.place own owner last = record { there = read.there; changed = changed; lives = read.lives } in
     rw (← c.self.view_is)
-    (commits s c.args.place own owner last is c.ends_with-ending.result c.committed_by-answer.result c.seal-number.result c.count-ended.result _ _ _ _ _ _ _ _ c.differs_from-other.result _ _
+    (commits s c.args.place own owner last is c.ends_with-ending.result c.committed_by-answer.result c.seal-number.result c.count-ended.result _ _ _ _ _ _ _ _
+    c.differs_from-other.result _ _
     (rw (← c.self.view_is) at c.requires.current) c.ends_with-ending.ensures c.seal-number.ensures.number c.in_ok-make_room.ensures.list c.count-ended.ensures
     c.committed_by-answer.ensures c.set_current.ensures c.end.ensures c.drop_with.ensures c.remove.ensures.items
     (c.deref.ensures.value ∙ c.in_ok-extend_from_slice.ensures.items

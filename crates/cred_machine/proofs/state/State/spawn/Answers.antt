@@ -15,7 +15,8 @@ returns-in-Some-begun_by-clause-ok c =
     let s = seen_state c.self.inside in
     let o = seen_task c.owner.inside in
     rw (← c.self.view_is)
-    (spawn_busy s c.args.task c.args.child 0 o (seen_numbered c.in-Some-get.field-0) (rw (← c.owner.view_is) at (sym c.in-Some.ensures)) (sym c.in-Some-get.ensures) (Busy c.in-Some-begun_by.cast) (busy_at s _ c.args.task _ c.deref.ensures.value c.in-Some-begun_by.ensures))
+    (spawn_busy s c.args.task c.args.child 0 o (seen_numbered c.in-Some-get.field-0) (rw (← c.owner.view_is) at (sym c.in-Some.ensures))
+    (sym c.in-Some-get.ensures) (Busy c.in-Some-begun_by.cast) (busy_at s _ c.args.task _ c.deref.ensures.value c.in-Some-begun_by.ensures))
 
 pub join-requires : goal.join-requires
 join-requires c =
@@ -52,7 +53,8 @@ returns-then-alive-clause-ok c =
     let s = seen_state c.self.inside in
     let o = seen_task c.owner.inside in
     rw (← c.self.view_is)
-    (spawn_exists s c.args.task c.args.child 0 o (seen_numbered c.in-Some-get.field-0) (rw (← c.owner.view_is) at (sym c.in-Some.ensures)) (sym c.in-Some-get.ensures)
+    (spawn_exists s c.args.task c.args.child 0 o (seen_numbered c.in-Some-get.field-0) (rw (← c.owner.view_is) at (sym c.in-Some.ensures))
+    (sym c.in-Some-get.ensures)
     (busy_at s _ c.args.task _ c.deref.ensures.value c.in_default-begun_by.ensures) (sym c.alive.ensures ∙ c.if-alive.true))
 
 pub returns-in-Some-overridden-clause-ok : goal.returns-in-Some-overridden-clause-ok
@@ -60,14 +62,18 @@ returns-in-Some-overridden-clause-ok c =
     let s = seen_state c.self.inside in
     let o = seen_task c.owner.inside in
     rw (← c.self.view_is)
-    (spawn_overridden s c.args.task c.args.child 0 o (seen_numbered c.in-Some-get.field-0) (rw (← c.owner.view_is) at (sym c.in-Some.ensures)) (sym c.in-Some-get.ensures)
-    (busy_at s _ c.args.task _ c.deref.ensures.value c.in_default-begun_by.ensures) (none_by_test _ c.alive.result c.alive.ensures c.if-alive.false) (Overridden c.in-Some-overridden.depth) (rw (← c.owner.view_is) at c.in-Some-overridden.ensures))
+    (spawn_overridden s c.args.task c.args.child 0 o (seen_numbered c.in-Some-get.field-0) (rw (← c.owner.view_is) at (sym c.in-Some.ensures))
+    (sym c.in-Some-get.ensures)
+    (busy_at s _ c.args.task _ c.deref.ensures.value c.in_default-begun_by.ensures) (none_by_test _ c.alive.result c.alive.ensures c.if-alive.false)
+    (Overridden c.in-Some-overridden.depth) (rw (← c.owner.view_is) at c.in-Some-overridden.ensures))
 
 pub returns-then-full-clause-ok : goal.returns-then-full-clause-ok
 returns-then-full-clause-ok c =
     let s = seen_state c.self.inside in
     let o = seen_task c.owner.inside in
     rw (← c.self.view_is)
-    (spawn_full s c.args.task c.args.child 0 o (seen_numbered c.in-Some-get.field-0) (rw (← c.owner.view_is) at (sym c.in-Some.ensures)) (sym c.in-Some-get.ensures)
-    (busy_at s _ c.args.task _ c.deref.ensures.value c.in_default-begun_by.ensures) (none_by_test _ c.alive.result c.alive.ensures c.if-alive.false) (rw (← c.owner.view_is) at c.in_default-overridden.ensures)
+    (spawn_full s c.args.task c.args.child 0 o (seen_numbered c.in-Some-get.field-0) (rw (← c.owner.view_is) at (sym c.in-Some.ensures))
+    (sym c.in-Some-get.ensures)
+    (busy_at s _ c.args.task _ c.deref.ensures.value c.in_default-begun_by.ensures) (none_by_test _ c.alive.result c.alive.ensures c.if-alive.false)
+    (rw (← c.owner.view_is) at c.in_default-overridden.ensures)
     (is_full _ c.full.result c.full.ensures c.if-full.true))

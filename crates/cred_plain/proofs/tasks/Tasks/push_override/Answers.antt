@@ -20,5 +20,6 @@ returns-in_default-clause-ok c = one_none _ _ c.args.task (sym c.in_default.ensu
 pub push-requires : goal.push-requires
 push-requires c =
     if_some (λ (t : Task). length t.overrides < 8) _ c.index_mut.result.now
-    (found_one c.args.task c.self.inside.list.items c.in-Some.place c.index_mut.result.now (rw (← c.self.view_is) at (sym c.in-Some.ensures)) c.index_mut.ensures.value)
+    (found_one c.args.task c.self.inside.list.items c.in-Some.place c.index_mut.result.now (rw (← c.self.view_is) at (sym c.in-Some.ensures))
+    c.index_mut.ensures.value)
     (rw (← c.self.view_is) at c.requires)

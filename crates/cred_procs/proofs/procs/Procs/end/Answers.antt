@@ -21,6 +21,7 @@ returns-clause-ended c = λ ends these. record {
   few = few_those ends c.args.self.now _ these c.in_ok-numbers.ensures.tasks.few;
   gave_up = c.in_ok-numbers.ensures.numbers ends (c.items.ensures ∙ these);
   left = c.loop-task.invariant
-      ∙ ap (without_all c.args.self.now) (take_all c.loop-task.task-index c.items-task-items.result.now c.loop-task-test.false ∙ c.items-task-items.ensures ∙ these)
+      ∙ ap (without_all c.args.self.now)
+      (take_all c.loop-task.task-index c.items-task-items.result.now c.loop-task-test.false ∙ c.items-task-items.ensures ∙ these)
       ∙ without-those ends c.args.self.now c.in_ok-numbers.ensures.tasks.apart;
 }

@@ -10,7 +10,8 @@ use Rattle.cred_procs.proofs.Many.{those-beside}
 use Rattle.cred_procs.proofs.procs.Procs.others.Goals as goal
 
 -- the other threads of a task that is found, by its process
-by_process : (task process : ℕ) (ts : List Task) (tasks : List ℕ) (found : Option Task) → task_in ts task ≡ found → option_map (λ t. t.process) found ≡ Some process
+by_process : (task process : ℕ) (ts : List Task) (tasks : List ℕ) (found : Option Task) → task_in ts task ≡ found
+    → option_map (λ t. t.process) found ≡ Some process
     → tasks ≡ filter (is_other task) (members ts process) → IfSome found (λ owner. tasks ≡ those (is_beside owner) ts)
 by_process task process ts tasks None at is these = cc
 by_process task process ts tasks (Some owner) at is these =

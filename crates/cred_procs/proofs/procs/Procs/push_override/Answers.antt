@@ -7,7 +7,7 @@ use Rattle.cred_ids.specs.Limits.{DEPTH}
 use Rattle.cred_procs.specs.declared.processes.Processes.{Processes}
 use Rattle.cred_procs.specs.declared.thread.Thread.{Thread}
 use Rattle.cred_procs.specs.Kept.{tasks_of, AreGrouped}
-use Rattle.cred_procs.specs.Tasks.{with_overrides}
+use Rattle.cred_model.specs.Moves.{with_overrides}
 use Rattle.cred_procs.proofs.Writes.{is_there, overrides_is, written_overrides, kept_overrides, unwritten}
 use Rattle.cred_procs.proofs.procs.Procs.push_override.Goals as goal
 

@@ -24,12 +24,15 @@ invariant_of-self c =
     = subst (IsDistinct nat_eq) (sym (numbers-tasks_of after) ∙ ap (λ (ts : List Task). map (λ t. t.number) ts) is) c.shift_remove.ensures.unique in
     let found = task_in-tasks_of c.args.task es ∙ ap (option_map (task_as c.args.task)) (sym c.shift_remove.ensures.value ∙ c.in-Some.is) in
     subst (λ (ts : List Task). AreGrouped ts c.remove.new.self) (sym is)
-    (kept_survivors c.args.task (task_as c.args.task c.in-Some.thread) (tasks_of es) c.self.inside.processes c.remove.new.self c.self.invariant apart found c.remove.ensures)
+    (kept_survivors c.args.task (task_as c.args.task c.in-Some.thread) (tasks_of es) c.self.inside.processes c.remove.new.self c.self.invariant apart found
+    c.remove.ensures)
 
 pub returns-in-Some : goal.returns-in-Some
 returns-in-Some c =
-    rw (← c.self.view_is) (left c.args.task c.self.inside.tasks.entries c.shift_remove.new.self.entries c.self.invariant.sound.apart c.shift_remove.ensures.entries)
+    rw (← c.self.view_is)
+    (left c.args.task c.self.inside.tasks.entries c.shift_remove.new.self.entries c.self.invariant.sound.apart c.shift_remove.ensures.entries)
 
 pub returns-in_default : goal.returns-in_default
 returns-in_default c =
-    rw (← c.self.view_is) (left c.args.task c.self.inside.tasks.entries c.shift_remove.new.self.entries c.self.invariant.sound.apart c.shift_remove.ensures.entries)
+    rw (← c.self.view_is)
+    (left c.args.task c.self.inside.tasks.entries c.shift_remove.new.self.entries c.self.invariant.sound.apart c.shift_remove.ensures.entries)

@@ -25,7 +25,8 @@ added task thread es room after new same is =
     ∙ map-append (λ (e : ℕ × Thread). task_as e.0 e.1) es ((task, thread) ∷ [])
 
 -- a task that overrides nothing
-first : (task process number : ℕ) (overrides : List ℕ) → overrides ≡ [] → task_as task (record { process = process; current = number; overrides = overrides }) ≡ first_task task process number
+first : (task process number : ℕ) (overrides : List ℕ) → overrides ≡ []
+    → task_as task (record { process = process; current = number; overrides = overrides }) ≡ first_task task process number
 first task process number overrides none = ap (λ (os : List ℕ). record { number = task; process = process; current = number; overrides = os }) none
 
 pub invariant_of-self-2 : goal.invariant_of-self-2

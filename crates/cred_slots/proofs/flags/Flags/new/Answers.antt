@@ -1,5 +1,5 @@
 use Rattle.std.proofs.Common.{refl}
-use Rattle.cred_slots.specs.Table.{slots}
+use Rattle.cred_ids.specs.Limits.{slots}
 use Rattle.cred_slots.specs.Flags.{flags_of}
 use Rattle.cred_slots.proofs.flags.Flags.new.Goals as goal
 

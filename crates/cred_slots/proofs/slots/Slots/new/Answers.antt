@@ -1,8 +1,9 @@
 use Rattle.std.proofs.Common.{◌≡◌, replicate, refl}
-use Rattle.cred_slots.specs.Table.{empty_table, slots}
+use Rattle.cred_slots.specs.Table.{empty_table}
 use Rattle.cred_slots.specs.Rows.{unused}
 use Rattle.cred_slots.proofs.Rows.{new-sound}
 use Rattle.cred_slots.proofs.slots.Slots.new.Goals as goal
+use Rattle.cred_ids.specs.Limits.{slots}
 
 pub invariant_of-result : goal.invariant_of-result
 invariant_of-result c =

@@ -26,7 +26,7 @@ invariant_of-self-2 c =
           (ap (λ (x : Table). x.deferred) c.drop_later.ensures.table ∙ ap (λ (x : Table). x.deferred ++ base ∷ []) c.give_up-2.ensures)
           sound.slots.own
           (ap (λ (x : Table). x.kept) c.drop_later.ensures.table ∙ ap (λ (x : Table). x.kept) c.give_up-2.ensures),
-      put_less c.self.inside.prepared gives.place c.self.inside.master.entries c.self.inside.master.slots c.self.invariant.1,
+      put_less c.self.inside.prepared gives.place c.self.inside.master.loans c.self.inside.master.slots c.self.invariant.1,
     )
 
 pub returns-clause-made : goal.returns-clause-made

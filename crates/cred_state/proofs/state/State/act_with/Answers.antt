@@ -29,7 +29,8 @@ set_like-requires-clause-sealed c =
     let t = c.self.inside in
     let s = state_of (as_parts t.tasks t.casts t.files t.holds t.prepared t.dump t.infos) t.master.slots t.slots in
     let found = rw (← c.self.view_is) at c.requires.next in
-    found-sealed c.self.invariant.0 c.args.next.now (is_found s.creds (λ (t : Task). t.current) (task_of s c.args.next.task) _ found.has) (current-in_use s c.args.next.task _ found.has)
+    found-sealed c.self.invariant.0 c.args.next.now (is_found s.creds (λ (t : Task). t.current) (task_of s c.args.next.task) _ found.has)
+    (current-in_use s c.args.next.task _ found.has)
 
 pub set_like-requires-clause-apart : goal.set_like-requires-clause-apart
 set_like-requires-clause-apart c =
@@ -38,7 +39,8 @@ set_like-requires-clause-apart c =
     let found = rw (← c.self.view_is) at c.requires.next in
     let seals = seals_spare {t = t.slots} c.in_ok-reserve.ensures.ok c.seal_next-new.ensures in
     stands_apart seals c.args.next.now.number c.args.next.now.slot
-    (found-slot c.self.invariant.0 c.args.next.now (is_found s.creds (λ (t : Task). t.current) (task_of s c.args.next.task) _ found.has) (current-in_use s c.args.next.task _ found.has))
+    (found-slot c.self.invariant.0 c.args.next.now (is_found s.creds (λ (t : Task). t.current) (task_of s c.args.next.task) _ found.has)
+    (current-in_use s c.args.next.task _ found.has))
     (bag-keeps c.args.next.now.number seals.held (current-held c.self.invariant.0 c.args.next.task _ found.has))
 
 pub set_like-requires-clause-valid : goal.set_like-requires-clause-valid
@@ -89,14 +91,19 @@ invariant_of-self-2 c =
     let found = rw (← c.self.view_is) at c.requires.next in
     let next = next_is s c.args.number c.args.next.task sound found.least in
     let new = changed (cred_under s.creds c.args.next.now.number) c.args.parts.now c.args.groups.now in
-    let rule = if_some (λ cast. set_id (cred_under s.creds c.args.next.now.number) cast.call ≡ Ok new) (slice_get s.casts c.args.next.cast) next.cast (cast_there next c.args.next.cast found.under) (rw (← c.self.view_is) at c.requires.made) in
-    let made = c.set_like.ensures.made _ (found-place c.self.invariant.0 c.args.next.now (is_found s.creds (λ (t : Task). t.current) (task_of s c.args.next.task) _ found.has) (current-in_use s c.args.next.task _ found.has)) in
+    let rule =
+    if_some (λ cast. set_id (cred_under s.creds c.args.next.now.number) cast.call ≡ Ok new) (slice_get s.casts c.args.next.cast) next.cast
+    (cast_there next c.args.next.cast found.under) (rw (← c.self.view_is) at c.requires.made) in
+    let made =
+    c.set_like.ensures.made _
+    (found-place c.self.invariant.0 c.args.next.now (is_found s.creds (λ (t : Task). t.current) (task_of s c.args.next.task) _ found.has)
+    (current-in_use s c.args.next.task _ found.has)) in
     let flags = c.renew_in.ensures next.owner next.lives
     ∙ ap (renewed t.dump next.owner.process) (rw (← c.self.view_is) at c.requires.other) in
     rw (set_there next _ found.there _ c.set_current_at.ensures, made, c.act_at-left.ensures.casts, flags) (
       act_kept c.self.invariant.0 c.args.number c.args.next.task next _ found.has new rule c.set_like.ensures.long
           (seals_spare c.in_ok-reserve.ensures.ok c.seal_next-new.ensures) sound.tasks (drops c.drop_later.ensures.held c.drop_later.ensures.table),
-      put_free t.prepared t.master.entries t.master.slots c.in-Some.slot (Some new)
+      put_free t.prepared t.master.loans t.master.slots c.in-Some.slot (Some new)
           (free_apart c.self.invariant.0 c.in-Some.slot (some_spare t.slots c.in_ok-reserve.ensures.ok (sym c.in-Some.ensures))) c.self.invariant.1,
     )
 
@@ -108,14 +115,20 @@ returns-clause-ok c =
     let found = rw (← c.self.view_is) at c.requires.next in
     let next = next_is s c.args.number c.args.next.task sound found.least in
     let new = changed (cred_under s.creds c.args.next.now.number) c.args.parts.now c.args.groups.now in
-    let rule = if_some (λ cast. set_id (cred_under s.creds c.args.next.now.number) cast.call ≡ Ok new) (slice_get s.casts c.args.next.cast) next.cast (cast_there next c.args.next.cast found.under) (rw (← c.self.view_is) at c.requires.made) in
-    let made = c.set_like.ensures.made _ (found-place c.self.invariant.0 c.args.next.now (is_found s.creds (λ (t : Task). t.current) (task_of s c.args.next.task) _ found.has) (current-in_use s c.args.next.task _ found.has)) in
+    let rule =
+    if_some (λ cast. set_id (cred_under s.creds c.args.next.now.number) cast.call ≡ Ok new) (slice_get s.casts c.args.next.cast) next.cast
+    (cast_there next c.args.next.cast found.under) (rw (← c.self.view_is) at c.requires.made) in
+    let made =
+    c.set_like.ensures.made _
+    (found-place c.self.invariant.0 c.args.next.now (is_found s.creds (λ (t : Task). t.current) (task_of s c.args.next.task) _ found.has)
+    (current-in_use s c.args.next.task _ found.has)) in
     let left = if_some _ (slice_get s.casts c.args.next.cast) next.cast (cast_there next c.args.next.cast found.under) c.act_at-left.ensures.left in
     let flags = c.renew_in.ensures next.owner next.lives
     ∙ ap (renewed t.dump next.owner.process) (rw (← c.self.view_is) at c.requires.other) in
     rw (← c.self.view_is, set_there next _ found.there _ c.set_current_at.ensures, made, c.act_at-left.ensures.casts, flags)
     (act_sealed c.self.invariant.0 c.args.number c.args.next.task next _ found.has new rule c.set_like.ensures.long
-    (seals_spare c.in_ok-reserve.ensures.ok c.seal_next-new.ensures) sound.tasks (drops c.drop_later.ensures.held c.drop_later.ensures.table) c.act_at-left.result left)
+    (seals_spare c.in_ok-reserve.ensures.ok c.seal_next-new.ensures) sound.tasks (drops c.drop_later.ensures.held c.drop_later.ensures.table)
+    c.act_at-left.result left)
 
 pub returns-in_default-clause-ok : goal.returns-in_default-clause-ok
 returns-in_default-clause-ok c =
@@ -126,7 +139,9 @@ returns-in_default-clause-ok c =
     let found = rw (← c.self.view_is) at c.requires.next in
     let next = next_is s c.args.number c.args.next.task sound found.least in
     let new = changed (cred_under s.creds c.args.next.now.number) c.args.parts.now c.args.groups.now in
-    let rule = if_some (λ cast. set_id (cred_under s.creds c.args.next.now.number) cast.call ≡ Ok new) (slice_get s.casts c.args.next.cast) next.cast (cast_there next c.args.next.cast found.under) (rw (← c.self.view_is) at c.requires.made) in
+    let rule =
+    if_some (λ cast. set_id (cred_under s.creds c.args.next.now.number) cast.call ≡ Ok new) (slice_get s.casts c.args.next.cast) next.cast
+    (cast_there next c.args.next.cast found.under) (rw (← c.self.view_is) at c.requires.made) in
     let none = sym c.in_default.ensures in
     let ended = c.end_process_of in
     rw (← c.self.view_is)
@@ -140,7 +155,10 @@ returns-clause-words c =
     let t = c.self.inside in
     let s = state_of (as_parts t.tasks t.casts t.files t.holds t.prepared t.dump t.infos) t.master.slots t.slots in
     let found = rw (← c.self.view_is) at c.requires.next in
-    let made = c.set_like.ensures.made _ (found-place c.self.invariant.0 c.args.next.now (is_found s.creds (λ (t : Task). t.current) (task_of s c.args.next.task) _ found.has) (current-in_use s c.args.next.task _ found.has)) in
+    let made =
+    c.set_like.ensures.made _
+    (found-place c.self.invariant.0 c.args.next.now (is_found s.creds (λ (t : Task). t.current) (task_of s c.args.next.task) _ found.has)
+    (current-in_use s c.args.next.task _ found.has)) in
     rw (← c.self.view_is, made) refl
 
 pub invariant_of-self : goal.invariant_of-self

@@ -23,35 +23,45 @@ pub enter_alter-requires-clause-sound : goal.enter_alter-requires-clause-sound
 enter_alter-requires-clause-sound c =
     let s = c.args.self.now in
     let its = rw c.change_ns-ns.ensures.same at c.in-Some.ensures in
-    let were = were_altered s c.args.cells.now c.args.label c.args.change c.in-Some.base c.in-Some.writer its.kept c.requires.sound c.requires.out c.requires.home its.standing in
+    let were =
+    were_altered s c.args.cells.now c.args.label c.args.change c.in-Some.base c.in-Some.writer its.kept c.requires.sound c.requires.out c.requires.home
+    its.standing in
     rw its.lent (lent_sound were)
 
 pub enter_alter-requires-clause-out : goal.enter_alter-requires-clause-out
 enter_alter-requires-clause-out c =
     let s = c.args.self.now in
     let its = rw c.change_ns-ns.ensures.same at c.in-Some.ensures in
-    let were = were_altered s c.args.cells.now c.args.label c.args.change c.in-Some.base c.in-Some.writer its.kept c.requires.sound c.requires.out c.requires.home its.standing in
+    let were =
+    were_altered s c.args.cells.now c.args.label c.args.change c.in-Some.base c.in-Some.writer its.kept c.requires.sound c.requires.out c.requires.home
+    its.standing in
     rw its.lent (lent_are were)
 
 pub put_earlier-requires-clause-sound : goal.put_earlier-requires-clause-sound
 put_earlier-requires-clause-sound c =
     let s = c.args.self.now in
     let its = rw c.change_ns-ns.ensures.same at c.in-Some.ensures in
-    let were = were_altered s c.args.cells.now c.args.label c.args.change c.in-Some.base c.in-Some.writer its.kept c.requires.sound c.requires.out c.requires.home its.standing in
+    let were =
+    were_altered s c.args.cells.now c.args.label c.args.change c.in-Some.base c.in-Some.writer its.kept c.requires.sound c.requires.out c.requires.home
+    its.standing in
     rw its.lent (lent_sound were)
 
 pub put_earlier-requires-clause-out : goal.put_earlier-requires-clause-out
 put_earlier-requires-clause-out c =
     let s = c.args.self.now in
     let its = rw c.change_ns-ns.ensures.same at c.in-Some.ensures in
-    let were = were_altered s c.args.cells.now c.args.label c.args.change c.in-Some.base c.in-Some.writer its.kept c.requires.sound c.requires.out c.requires.home its.standing in
+    let were =
+    were_altered s c.args.cells.now c.args.label c.args.change c.in-Some.base c.in-Some.writer its.kept c.requires.sound c.requires.out c.requires.home
+    its.standing in
     rw its.lent (lent_are were)
 
 pub take_hold_back-requires-clause-apart : goal.take_hold_back-requires-clause-apart
 take_hold_back-requires-clause-apart c =
     let s = c.args.self.now in
     let its = rw c.change_ns-ns.ensures.same at c.in-Some.ensures in
-    let were = were_altered s c.args.cells.now c.args.label c.args.change c.in-Some.base c.in-Some.writer its.kept c.requires.sound c.requires.out c.requires.home its.standing in
+    let were =
+    were_altered s c.args.cells.now c.args.label c.args.change c.in-Some.base c.in-Some.writer its.kept c.requires.sound c.requires.out c.requires.home
+    its.standing in
     let mid = c.lend_kept.new.self in
     let sound : IsSound mid.state = rw its.lent (lent_sound were) in
     let out : AreOut mid.state mid.words.out = rw its.lent (lent_are were) in
@@ -72,7 +82,8 @@ returns-in-Ok-clause-ok c =
     let made = rw (c.executed_file-file.ensures, c.infos.ensures, c.chain_of-chain.ensures) at c.in-Ok.ensures.made in
     let ok = rw c.in-Ok.ensures.base at c.enter_alter.ensures.made in
     let ok = rw (its.lent, named) at (ok script _ (chain, made)) in
-    does_like script (with_kept s base c.in-Some.writer).state s.state 0 (Alter label change) c.enter_alter.result c.enter_alter.new.self.state (lent_like were) ok
+    does_like script (with_kept s base c.in-Some.writer).state s.state 0 (Alter label change) c.enter_alter.result c.enter_alter.new.self.state (lent_like were)
+    ok
 
 pub returns-in-Ok-clause-words : goal.returns-in-Ok-clause-words
 returns-in-Ok-clause-words c =
@@ -86,10 +97,10 @@ returns-in-Ok-clause-words c =
     let put = c.in-Ok.ensures.put in
     let label = ap (λ (w : Written). w.label) put ∙ put_label made writer in
     let slot = ap (λ (w : Written). w.slot) put ∙ put_slot made writer in
-    let entries : loan c.alter.new.writer.label c.alter.new.writer.slot None ∷ hold_loan c.alter.new.base ∷ [] ≡ loan writer.label writer.slot None ∷ hold_loan base ∷ []
+    let loans : loan c.alter.new.writer.label c.alter.new.writer.slot None ∷ hold_loan c.alter.new.base ∷ [] ≡ loan writer.label writer.slot None ∷ hold_loan base ∷ []
     = λ k. loan (label k) (slot k) None ∷ hold_loan (c.in-Ok.ensures.base k) ∷ [] in
     let taken = subst (λ (x : Standing). AreTaken (loan writer.label writer.slot None ∷ hold_loan base ∷ []) x.words.out new.out) its.lent
-    (subst (λ (es : List Loan). AreTaken es c.lend_kept.new.self.words.out new.out) entries c.enter_alter.ensures.taken) in
+    (subst (λ (es : List Loan). AreTaken es c.lend_kept.new.self.words.out new.out) loans c.enter_alter.ensures.taken) in
     let out = lent_back were new.out taken in
     let id = c.enter_alter.ensures.id ∙ ap (λ (x : Standing). x.words.id) its.lent in
     λ k. record { id = id k; out = out k }

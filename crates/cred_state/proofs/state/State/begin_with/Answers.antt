@@ -35,7 +35,8 @@ begin_in-requires c =
     let t = c.self.inside in
     let may = rw (← c.self.view_is) at c.requires.may in
     let sound = rw (← c.self.view_is) at c.requires.sound in
-    broadcast_may_begin (state_of (as_parts t.tasks t.casts t.files t.holds t.prepared t.dump t.infos) t.master.slots t.slots) c.args.line c.args.task _ may sound
+    broadcast_may_begin (state_of (as_parts t.tasks t.casts t.files t.holds t.prepared t.dump t.infos) t.master.slots t.slots) c.args.line c.args.task _ may
+    sound
 
 pub renew_in-requires : goal.renew_in-requires
 renew_in-requires c =
@@ -47,7 +48,8 @@ set_like-requires-clause-sealed c =
     let t = c.self.inside in
     let s = state_of (as_parts t.tasks t.casts t.files t.holds t.prepared t.dump t.infos) t.master.slots t.slots in
     let may = rw (← c.self.view_is) at c.requires.may in
-    found-sealed c.self.invariant.0 c.args.now (is_found s.creds (λ (t : Task). t.current) (task_of s c.args.task) _ may.has) (current-in_use s c.args.task _ may.has)
+    found-sealed c.self.invariant.0 c.args.now (is_found s.creds (λ (t : Task). t.current) (task_of s c.args.task) _ may.has)
+    (current-in_use s c.args.task _ may.has)
 
 pub set_like-requires-clause-apart : goal.set_like-requires-clause-apart
 set_like-requires-clause-apart c =
@@ -56,7 +58,8 @@ set_like-requires-clause-apart c =
     let may = rw (← c.self.view_is) at c.requires.may in
     let seals = seals_spare {t = t.slots} c.in_ok-reserve.ensures.ok c.seal_next-number.ensures in
     stands_apart seals c.args.now.number c.args.now.slot
-    (found-slot c.self.invariant.0 c.args.now (is_found s.creds (λ (t : Task). t.current) (task_of s c.args.task) _ may.has) (current-in_use s c.args.task _ may.has))
+    (found-slot c.self.invariant.0 c.args.now (is_found s.creds (λ (t : Task). t.current) (task_of s c.args.task) _ may.has)
+    (current-in_use s c.args.task _ may.has))
     (bag-keeps c.args.now.number seals.held (current-held c.self.invariant.0 c.args.task _ may.has))
 
 pub set_like-requires-clause-valid : goal.set_like-requires-clause-valid
@@ -93,12 +96,15 @@ invariant_of-self-2 c =
     let t = c.self.inside in
     let s = state_of (as_parts t.tasks t.casts t.files t.holds t.prepared t.dump t.infos) t.master.slots t.slots in
     let new = changed (cred_under s.creds c.args.now.number) c.args.parts.now c.args.groups.now in
-    let made = c.set_like.ensures.made _ (found-place c.self.invariant.0 c.args.now (is_found s.creds (λ (t : Task). t.current) (task_of s c.args.task) _ may.has) (current-in_use s c.args.task _ may.has)) in
+    let made =
+    c.set_like.ensures.made _
+    (found-place c.self.invariant.0 c.args.now (is_found s.creds (λ (t : Task). t.current) (task_of s c.args.task) _ may.has)
+    (current-in_use s c.args.task _ may.has)) in
     rw (c.set_current.ensures.tasks, made) (
       replaced_kept c.self.invariant.0 c.drop_later.new.self c.args.task _ new may.has c.set_like.ensures.long
           (seals_spare c.in_ok-reserve.ensures.ok c.seal_next-number.ensures) sound.tasks (drops c.drop_later.ensures.held c.drop_later.ensures.table)
           c.begin_in.new.casts c.renew_in.new.dump,
-      put_free c.self.inside.prepared c.self.inside.master.entries c.self.inside.master.slots c.in-Some.slot (Some new)
+      put_free c.self.inside.prepared c.self.inside.master.loans c.self.inside.master.slots c.in-Some.slot (Some new)
           (free_apart c.self.invariant.0 c.in-Some.slot (some_spare c.self.inside.slots c.in_ok-reserve.ensures.ok (sym c.in-Some.ensures))) c.self.invariant.1,
     )
 
@@ -110,7 +116,10 @@ returns-clause-ok c =
     let rule = rw (← c.self.view_is) at c.requires.made in
     let s = state_of (as_parts t.tasks t.casts t.files t.holds t.prepared t.dump t.infos) t.master.slots t.slots in
     let new = changed (cred_under s.creds c.args.now.number) c.args.parts.now c.args.groups.now in
-    let made = c.set_like.ensures.made _ (found-place c.self.invariant.0 c.args.now (is_found s.creds (λ (t : Task). t.current) (task_of s c.args.task) _ may.has) (current-in_use s c.args.task _ may.has)) in
+    let made =
+    c.set_like.ensures.made _
+    (found-place c.self.invariant.0 c.args.now (is_found s.creds (λ (t : Task). t.current) (task_of s c.args.task) _ may.has)
+    (current-in_use s c.args.task _ may.has)) in
     let begun = if_some _ (task_in t.tasks c.args.task) may.owner may.lives c.in_ok-left.ensures.ok in
     let other = rw (← c.self.view_is) at c.requires.other in
     let flags = c.renew_in.ensures may.owner may.lives
@@ -125,7 +134,10 @@ returns-clause-words c =
     let t = c.self.inside in
     let s = state_of (as_parts t.tasks t.casts t.files t.holds t.prepared t.dump t.infos) t.master.slots t.slots in
     let may = rw (← c.self.view_is) at c.requires.may in
-    let made = c.set_like.ensures.made _ (found-place c.self.invariant.0 c.args.now (is_found s.creds (λ (t : Task). t.current) (task_of s c.args.task) _ may.has) (current-in_use s c.args.task _ may.has)) in
+    let made =
+    c.set_like.ensures.made _
+    (found-place c.self.invariant.0 c.args.now (is_found s.creds (λ (t : Task). t.current) (task_of s c.args.task) _ may.has)
+    (current-in_use s c.args.task _ may.has)) in
     rw (← c.self.view_is, made) refl
 
 pub invariant_of-self : goal.invariant_of-self

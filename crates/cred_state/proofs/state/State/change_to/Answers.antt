@@ -11,10 +11,10 @@ invariant_of-self c =
     let are = rw (← c.self.view_is) at c.requires.out in
     let new = c.take_back.new.self in
     let slot = c.args.writer.slot in
-    let taken = subst (λ (n : ℕ). IsTaken t.master.entries (loan n slot None) new.entries) c.requires.label c.take_back.ensures.entry in
+    let taken = subst (λ (n : ℕ). IsTaken t.master.loans (loan n slot None) new.loans) c.requires.label c.take_back.ensures.taken in
     let lt = set_within t.master.slots new.slots slot c.args.writer.put c.take_back.ensures.slots c.take_back.ensures.slot in
     rw (c.change.ensures, c.take_back.ensures.slots)
-    (changed_kept c.self.invariant sound are c.args.label slot new.entries taken c.args.writer.put lt c.args.to c.requires.put)
+    (changed_kept c.self.invariant sound are c.args.label slot new.loans taken c.args.writer.put lt c.args.to c.requires.put)
 
 pub returns-clause-like : goal.returns-clause-like
 returns-clause-like c =
@@ -23,7 +23,7 @@ returns-clause-like c =
     let are = rw (← c.self.view_is) at c.requires.out in
     let new = c.take_back.new.self in
     let slot = c.args.writer.slot in
-    let taken = subst (λ (n : ℕ). IsTaken t.master.entries (loan n slot None) new.entries) c.requires.label c.take_back.ensures.entry in
+    let taken = subst (λ (n : ℕ). IsTaken t.master.loans (loan n slot None) new.loans) c.requires.label c.take_back.ensures.taken in
     let lt = set_within t.master.slots new.slots slot c.args.writer.put c.take_back.ensures.slots c.take_back.ensures.slot in
     rw (← c.self.view_is, c.change.ensures, c.take_back.ensures.slots)
-    (changed_like c.self.invariant sound are c.args.label slot new.entries taken c.args.writer.put lt c.args.to c.requires.put)
+    (changed_like c.self.invariant sound are c.args.label slot new.loans taken c.args.writer.put lt c.args.to c.requires.put)

@@ -8,8 +8,10 @@ drop_later-requires c = opener-held c.self.invariant.0 c.in-Some.ensures.place _
 pub invariant_of-self-2 : goal.invariant_of-self-2
 invariant_of-self-2 c =
     let gone = c.in-Some.ensures in
-    rw gone.left
-    (close_kept c.self.invariant.0 c.drop_later.new.self gone.place _ gone.there (drops c.drop_later.ensures.held c.drop_later.ensures.table), c.self.invariant.1)
+    rw gone.left (
+      close_kept c.self.invariant.0 c.drop_later.new.self gone.place _ gone.there (drops c.drop_later.ensures.held c.drop_later.ensures.table),
+      c.self.invariant.1,
+    )
 
 pub returns-clause-made : goal.returns-clause-made
 returns-clause-made c =

@@ -45,7 +45,8 @@ returns-then-now-base-clause-ok c =
     let s = state_of (as_parts t.tasks t.casts t.files t.holds t.prepared t.dump t.infos) t.master.slots t.slots in
     rw (← c.self.view_is)
     (let own = owner_of s c.in-Some.field-0.task c.in-Some-current.now c.in-Some-current.ensures in
-    commit_stale s c.args.label _ ready.last ready.found refl (ap is_access ready.by ∙ ready.for_task) c.abort.new.self.state c.abort.result c.in-Some-current.now own.0 own.1 own.2 idle
+    commit_stale s c.args.label _ ready.last ready.found refl (ap is_access ready.by ∙ ready.for_task) c.abort.new.self.state c.abort.result
+    c.in-Some-current.now own.0 own.1 own.2 idle
     (own_owner s c.in-Some.field-0.task own.0 own.1 allowed) c.if-now-base.true aborts)
 
 pub commit_ready-requires-clause-ready : goal.commit_ready-requires-clause-ready

@@ -5,9 +5,10 @@ use Rattle.cred_model.specs.State.{Changed, Prepared}
 use Rattle.cred_model.specs.Moves.{with_current}
 use Rattle.cred_model.specs.Step.{is_access}
 use Rattle.cred_model.proofs.Places.{find-at}
+use Rattle.cred_model.specs.Casts.{casts_left}
 use Rattle.cred_slots.specs.Table.{Table}
 use Rattle.cred_procs.specs.Tasks.{task_in}
-use Rattle.cred_tables.specs.Kept.{SealsKept, casts_left, as_parts, state_of}
+use Rattle.cred_tables.specs.Kept.{SealsKept, as_parts, state_of}
 use Rattle.cred_tables.specs.Prepared.{changed_of}
 use Rattle.cred_state.proofs.Commits.{goes_on, owner-held, base-held_still, slot-kept_still, commit_kept, commit_done}
 use Rattle.cred_tables.proofs.Ending.{EndsWith, ends_so, ended-held}
@@ -28,7 +29,8 @@ unwrap-process-requires c =
 pub drop_all-requires : goal.drop_all-requires
 drop_all-requires c =
     let lives = rw (← c.self.view_is) at c.requires.current in
-    ended-held c.self.invariant.0 c.args.change c.end_with.new.tasks c.in_ok-ended.ended.tasks c.in_ok-ended.ended.numbers c.items.result.now c.reserve.new.self.held
+    ended-held c.self.invariant.0 c.args.change c.end_with.new.tasks c.in_ok-ended.ended.tasks c.in_ok-ended.ended.numbers c.items.result.now
+    c.reserve.new.self.held
     (task_in c.self.inside.tasks c.args.task) lives c.in_ok-ended.ensures.ended c.items.ensures
     (ap (λ (x : Table). x.held) c.in_ok-reserve.ensures.ok)
 
@@ -53,7 +55,8 @@ seal_kept-number-requires-clause-slot c =
     let gives = c.finish-last.ensures in
     let same = same_label t.prepared c.finish-last.new.self c.args.label c.args.task now c.finish-last.result.0.base c.finish-last.result.0.slot c.args.change
     c.finish-last.result.1 ready gives in
-    let own = subst (λ (n : ℕ). EndsWith c.args.change t.tasks c.end_with.new.tasks t.slots c.drop_all.new.slots n now c.in_ok-ended.ended.tasks) (sym same.0) e in
+    let own =
+    subst (λ (n : ℕ). EndsWith c.args.change t.tasks c.end_with.new.tasks t.slots c.drop_all.new.slots n now c.in_ok-ended.ended.tasks) (sym same.0) e in
     let less = drops c.drop_later.ensures.held c.drop_later.ensures.table in
     slot-kept_still c.self.invariant.0 gives.gives.place _ gives.gives.there c.args.change now own less
 
@@ -68,7 +71,8 @@ seal_kept-number-requires-clause-base c =
     let gives = c.finish-last.ensures in
     let same = same_label t.prepared c.finish-last.new.self c.args.label c.args.task now c.finish-last.result.0.base c.finish-last.result.0.slot c.args.change
     c.finish-last.result.1 ready gives in
-    let own = subst (λ (n : ℕ). EndsWith c.args.change t.tasks c.end_with.new.tasks t.slots c.drop_all.new.slots n now c.in_ok-ended.ended.tasks) (sym same.0) e in
+    let own =
+    subst (λ (n : ℕ). EndsWith c.args.change t.tasks c.end_with.new.tasks t.slots c.drop_all.new.slots n now c.in_ok-ended.ended.tasks) (sym same.0) e in
     let less = drops c.drop_later.ensures.held c.drop_later.ensures.table in
     base-held_still c.self.invariant.0 gives.gives.place _ gives.gives.there c.args.change now own less (sym same.1)
 
@@ -93,7 +97,8 @@ invariant_of-self-2 c =
     let gives = c.finish-last.ensures in
     let same = same_label t.prepared c.finish-last.new.self c.args.label c.args.task now c.finish-last.result.0.base c.finish-last.result.0.slot c.args.change
     c.finish-last.result.1 ready gives in
-    let own = subst (λ (n : ℕ). EndsWith c.args.change t.tasks c.end_with.new.tasks t.slots c.drop_all.new.slots n now c.in_ok-ended.ended.tasks) (sym same.0) e in
+    let own =
+    subst (λ (n : ℕ). EndsWith c.args.change t.tasks c.end_with.new.tasks t.slots c.drop_all.new.slots n now c.in_ok-ended.ended.tasks) (sym same.0) e in
     let less = drops c.drop_later.ensures.held c.drop_later.ensures.table in
     let sound = rw (← c.self.view_is) at c.requires.sound in
     let seals : SealsKept c.drop_later.new.self c.seal_kept-number.new.slots c.seal_kept-number.result c.finish-last.result.0.base c.finish-last.result.0.slot
@@ -102,11 +107,14 @@ invariant_of-self-2 c =
     = c.set_current.ensures.tasks ∙ ap (λ (n : ℕ). with_current c.end_with.new.tasks n c.seal_kept-number.result) (sym same.0) in
     let out = rw (← c.self.view_is) at c.requires.out in
     let home = rw (← c.self.view_is) at c.requires.home in
-    let words = committed_words t.master.entries c.self.invariant c.args.label gives.gives.place _ gives.gives.found gives.gives.there c.finish-last.result.1 refl sound out home in
+    let words =
+    committed_words t.master.loans c.self.invariant c.args.label gives.gives.place _ gives.gives.found gives.gives.there c.finish-last.result.1 refl sound out
+    home in
     let change : c.last.inside.change ≡ c.args.change = ap (λ (x : Changed). x.change) c.last.view_is ∙ same.2 in
     let process = owner_process t.tasks c.args.task c.unwrap-process.result e.owner e.lives c.unwrap-process.ensures c.process_of.ensures in
     let casts : c.drop_cast.new.casts ≡ casts_left c.args.change e.owner.process t.casts
-    = c.drop_cast.ensures ∙ ap (λ (x : Change). casts_left x c.unwrap-process.result t.casts) change ∙ ap (λ (n : ℕ). casts_left c.args.change n t.casts) process in
+    = c.drop_cast.ensures ∙ ap (λ (x : Change). casts_left x c.unwrap-process.result t.casts) change
+    ∙ ap (λ (n : ℕ). casts_left c.args.change n t.casts) process in
     let s = state_of (as_parts t.tasks t.casts t.files t.holds t.prepared t.dump t.infos) t.master.slots
     t.slots in
     let changed : changed_of t.prepared c.args.label ≡ Some c.finish-last.result.1
@@ -120,7 +128,7 @@ invariant_of-self-2 c =
     rw (tasks, casts, gives.gives.left, flags) (
       commit_kept c.self.invariant.0 gives.gives.place _ gives.gives.there c.args.change now own less c.seal_kept-number.new.slots
           c.finish-last.result.1 words seals sound.tasks sound.slots.own,
-      put_less t.prepared gives.gives.place t.master.entries t.master.slots c.self.invariant.1,
+      put_less t.prepared gives.gives.place t.master.loans t.master.slots c.self.invariant.1,
     )
 
 pub returns-clause-ok : goal.returns-clause-ok
@@ -134,7 +142,8 @@ returns-clause-ok c =
     let gives = c.finish-last.ensures in
     let same = same_label t.prepared c.finish-last.new.self c.args.label c.args.task now c.finish-last.result.0.base c.finish-last.result.0.slot c.args.change
     c.finish-last.result.1 ready gives in
-    let own = subst (λ (n : ℕ). EndsWith c.args.change t.tasks c.end_with.new.tasks t.slots c.drop_all.new.slots n now c.in_ok-ended.ended.tasks) (sym same.0) e in
+    let own =
+    subst (λ (n : ℕ). EndsWith c.args.change t.tasks c.end_with.new.tasks t.slots c.drop_all.new.slots n now c.in_ok-ended.ended.tasks) (sym same.0) e in
     let less = drops c.drop_later.ensures.held c.drop_later.ensures.table in
     let sound = rw (← c.self.view_is) at c.requires.sound in
     let seals : SealsKept c.drop_later.new.self c.seal_kept-number.new.slots c.seal_kept-number.result c.finish-last.result.0.base c.finish-last.result.0.slot
@@ -143,14 +152,17 @@ returns-clause-ok c =
     = c.set_current.ensures.tasks ∙ ap (λ (n : ℕ). with_current c.end_with.new.tasks n c.seal_kept-number.result) (sym same.0) in
     let out = rw (← c.self.view_is) at c.requires.out in
     let home = rw (← c.self.view_is) at c.requires.home in
-    let words = committed_words t.master.entries c.self.invariant c.args.label gives.gives.place _ gives.gives.found gives.gives.there c.finish-last.result.1 refl sound out home in
+    let words =
+    committed_words t.master.loans c.self.invariant c.args.label gives.gives.place _ gives.gives.found gives.gives.there c.finish-last.result.1 refl sound out
+    home in
     let allowed = rw (← c.self.view_is) at c.requires.allowed in
     let idle = rw (← c.self.view_is) at c.requires.idle in
     let gains : c.last.inside.gains ≡ c.finish-last.result.1.gains = ap (λ (x : Changed). x.gains) c.last.view_is in
     let change : c.last.inside.change ≡ c.args.change = ap (λ (x : Changed). x.change) c.last.view_is ∙ same.2 in
     let process = owner_process t.tasks c.args.task c.unwrap-process.result e.owner e.lives c.unwrap-process.ensures c.process_of.ensures in
     let casts : c.drop_cast.new.casts ≡ casts_left c.args.change e.owner.process t.casts
-    = c.drop_cast.ensures ∙ ap (λ (x : Change). casts_left x c.unwrap-process.result t.casts) change ∙ ap (λ (n : ℕ). casts_left c.args.change n t.casts) process in
+    = c.drop_cast.ensures ∙ ap (λ (x : Change). casts_left x c.unwrap-process.result t.casts) change
+    ∙ ap (λ (n : ℕ). casts_left c.args.change n t.casts) process in
     let s = state_of (as_parts t.tasks t.casts t.files t.holds t.prepared t.dump t.infos) t.master.slots
     t.slots in
     let changed : changed_of t.prepared c.args.label ≡ Some c.finish-last.result.1
@@ -164,7 +176,10 @@ returns-clause-ok c =
     rw (← c.self.view_is, tasks, casts, gives.gives.left, flags, c.committed_by.ensures, gains, change)
     (commit_done c.self.invariant.0 gives.gives.place _ gives.gives.there c.args.change now own less c.seal_kept-number.new.slots
     c.finish-last.result.1 words seals sound.tasks sound.slots.own c.args.label (length c.items-2.result.now) gives.gives.found refl
-    (ap is_access same.2 ∙ ready.for_task) (rw same.0 idle) (own_owner (state_of (as_parts t.tasks t.casts t.files t.holds t.prepared t.dump t.infos) t.master.slots t.slots) gives.task own.owner own.lives (rw same.0 allowed)) same.2 (sym same.1)
+    (ap is_access same.2 ∙ ready.for_task) (rw same.0 idle)
+    (own_owner (state_of (as_parts t.tasks t.casts t.files t.holds t.prepared t.dump t.infos) t.master.slots t.slots) gives.task own.owner own.lives
+    (rw same.0 allowed))
+    same.2 (sym same.1)
     (ap length c.items-2.ensures))
 
 pub invariant_of-self : goal.invariant_of-self

@@ -23,7 +23,8 @@ invariant_of-self-2 c =
     let t = c.self.inside in
     let gone = c.in_ok-ended.ensures.ended in
     let all = ends_all c.args.cause t.slots c.sweep_at.ensures (c.items.ensures ∙ gone.gave_up) c.drop_all.ensures.held c.drop_all.ensures.table in
-    rw (gone.left, c.dropped.ensures, c.gone.ensures) (process_kept c.self.invariant.0 c.args.cause c.unwrap-process.result c.drop_all.new.slots all, c.self.invariant.1)
+    rw (gone.left, c.dropped.ensures, c.gone.ensures)
+    (process_kept c.self.invariant.0 c.args.cause c.unwrap-process.result c.drop_all.new.slots all, c.self.invariant.1)
 
 pub returns-clause-state : goal.returns-clause-state
 returns-clause-state c =

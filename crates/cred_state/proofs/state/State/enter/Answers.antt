@@ -23,7 +23,8 @@ take_hold_back-requires-in-Some-may-2-clause-apart c =
     let s = c.args.self.now.state in
     let out = c.args.self.now.words.out in
     rw c.take_hold_back-in-Some-may.ensures.state
-    (apart_taken (kept s) out _ c.take_hold_back-in-Some-may.new.self.words.out (holds_apart s out c.requires.sound c.requires.out) c.take_hold_back-in-Some-may.ensures.taken)
+    (apart_taken (kept s) out _ c.take_hold_back-in-Some-may.new.self.words.out (holds_apart s out c.requires.sound c.requires.out)
+    c.take_hold_back-in-Some-may.ensures.taken)
 
 pub enter_open-requires-clause-apart : goal.enter_open-requires-clause-apart
 enter_open-requires-clause-apart c = holds_apart c.args.self.now.state c.args.self.now.words.out c.requires.sound c.requires.out
@@ -50,7 +51,8 @@ returns-in-Ok-clause-ok c = λ script line chain is right.
     let r = rw a.is at right in
     let has = has_taken out (hold_loan hold) c.enter_open.new.self.words.out c.in-Ok.ensures.taken in
     let own = held_own s out c.requires.sound c.requires.out hold.label hold.slot hold.cred has in
-    let may = held_right (λ m x. checked x (info_of s.infos (a.file ∷ [])) a.want ≡ (if m then Done else Eacces)) a.may (held_by s hold.label) hold.cred r own in
+    let may =
+    held_right (λ m x. checked x (info_of s.infos (a.file ∷ [])) a.want ≡ (if m then Done else Eacces)) a.may (held_by s hold.label) hold.cred r own in
     rw a.is (does_same _ _ _ (c.in-Ok.ensures.ok a.want may))
 
 pub returns-in-Some-may-clause-ok : goal.returns-in-Some-may-clause-ok

@@ -10,5 +10,6 @@ pub returns-clause-made : goal.returns-clause-made
 returns-clause-made c =
     let old = c.args.parts.now in
     rw (← c.self.view_is)
-    (called_so (λ (call : IdCall). (x : Credential) → parts_of x ≡ old → PartsBecome x old c.apply_parts.new.own c.apply_parts.result (set_id x call)) _ _ c.call_at.ensures
+    (called_so (λ (call : IdCall). (x : Credential) → parts_of x ≡ old → PartsBecome x old c.apply_parts.new.own c.apply_parts.result (set_id x call)) _ _
+    c.call_at.ensures
     c.apply_parts.ensures.made)

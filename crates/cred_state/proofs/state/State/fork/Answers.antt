@@ -67,5 +67,6 @@ returns-clause-ok c =
     let may = rw (← c.self.view_is) at c.in-Ok.ensures in
     let t = c.self.inside in
     rw (← c.self.view_is)
-    (fork_done (as_parts t.tasks t.casts t.files t.holds t.prepared t.dump t.infos) t.master.slots t.slots c.in_ok-reserve.ensures.ok c.add.ensures.table c.args.task c.args.child _ may.0 c.args.process may.1
+    (fork_done (as_parts t.tasks t.casts t.files t.holds t.prepared t.dump t.infos) t.master.slots t.slots c.in_ok-reserve.ensures.ok c.add.ensures.table
+    c.args.task c.args.child _ may.0 c.args.process may.1
     c.in_ok-fork_in.ensures.tasks c.in_ok-fork_in.ensures.flags)

@@ -22,14 +22,17 @@ pub returns-clause-ok : goal.returns-clause-ok
 returns-clause-ok c = c.start_with-answer.ensures.ok c.args.user c.args.group c.args.ns c.args.root c.in_ok-cred.ensures
 
 pub returns-in-Some-clause-ok : goal.returns-in-Some-clause-ok
-returns-in-Some-clause-ok c = does_same _ _ _ (init_busy c.args.self.now.state c.args.number c.args.process c.args.user c.args.group c.args.ns c.args.root c.in-Some.cast c.in-Some.ensures)
+returns-in-Some-clause-ok c =
+    does_same _ _ _
+    (init_busy c.args.self.now.state c.args.number c.args.process c.args.user c.args.group c.args.ns c.args.root c.in-Some.cast c.in-Some.ensures)
 
 pub returns-then-alive-clause-ok : goal.returns-then-alive-clause-ok
 returns-then-alive-clause-ok c =
     let t = c.self.inside in
     let s = state_of (as_parts t.tasks t.casts t.files t.holds t.prepared t.dump t.infos) t.master.slots t.slots in
     let idle = rw (← c.self.view_is) at c.in_default.ensures in
-    rw (← c.self.view_is) (does_same _ _ _ (init_exists s c.args.number c.args.process c.args.user c.args.group c.args.ns c.args.root idle (sym c.alive.ensures ∙ c.if-alive.true)))
+    rw (← c.self.view_is)
+    (does_same _ _ _ (init_exists s c.args.number c.args.process c.args.user c.args.group c.args.ns c.args.root idle (sym c.alive.ensures ∙ c.if-alive.true)))
 
 pub returns-then-full-clause-ok : goal.returns-then-full-clause-ok
 returns-then-full-clause-ok c =

@@ -8,7 +8,13 @@ use Rattle.cred_state.proofs.state.State.lend.Goals as goal
 
 pub returns-in_err-own-in-Signal-clause-waits : goal.returns-in_err-own-in-Signal-clause-waits
 returns-in_err-own-in-Signal-clause-waits c =
-    rw (c.from_residual-in_err-own-in-Signal.ensures, c.in-Signal.is, no_hold c.args.self.now.state c.requires.sound c.in-Signal.hold (sym c.in_err-own-in-Signal.ensures)) refl
+    rw (
+      c.from_residual-in_err-own-in-Signal.ensures,
+      c.in-Signal.is,
+      no_hold c.args.self.now.state c.requires.sound c.in-Signal.hold
+          (sym c.in_err-own-in-Signal.ensures),
+    )
+    refl
 
 pub returns-in_err-other-in-Signal-clause-waits : goal.returns-in_err-other-in-Signal-clause-waits
 returns-in_err-other-in-Signal-clause-waits c =

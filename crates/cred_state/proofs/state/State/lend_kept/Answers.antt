@@ -50,7 +50,7 @@ lend_writer-writer-requires-clause-alone c =
     = sym (ap (option_and_then (λ (q : Prepared). numbered s.creds q.base)) prepared) ∙ sym base in
     let apart = (found (λ (q : Prepared). c.in_ok-base.base.slot ≢ q.slot) (λ (q : Prepared). q.label == c.args.label) s.prepared p prepared
     (base_apart s sound c.args.label p (seen_in s.creds c.in_ok-base.base) prepared sealed)).0 in
-    rw c.lend-hold.ensures.entries (apart, kept_alone s sound c.args.label p prepared t.master.entries are home)
+    rw c.lend-hold.ensures.loans (apart, kept_alone s sound c.args.label p prepared t.master.loans are home)
 
 pub invariant_of-self : goal.invariant_of-self
 invariant_of-self c =
@@ -61,9 +61,9 @@ invariant_of-self c =
     let prepared : prepared_of s c.args.label ≡ Some p = sym c.in_ok-slot.ensures in
     let label = c.args.label in
     let lent = loan label p.slot None ∷ loan label c.in_ok-base.base.slot (Some c.lend-hold.result.cred) ∷ [] in
-    rw (c.lend_writer-writer.ensures.slots, c.lend-hold.ensures.rest.1, c.lend_writer-writer.ensures.entries, c.lend-hold.ensures.entries) (
+    rw (c.lend_writer-writer.ensures.slots, c.lend-hold.ensures.rest.1, c.lend_writer-writer.ensures.loans, c.lend-hold.ensures.loans) (
       kept_spare c.self.invariant.0 sound label p prepared None,
-      put_written t.prepared lent t.master.entries t.master.slots p.slot (λ alone. alone.0 refl) c.self.invariant.1,
+      put_written t.prepared lent t.master.loans t.master.slots p.slot (λ alone. alone.0 refl) c.self.invariant.1,
     )
 
 pub returns-clause-kept : goal.returns-clause-kept
@@ -106,9 +106,9 @@ returns-clause-lent c =
     ∙ ap (λ (n : ℕ). slice_set t.master.slots n None) (sym writer.2) in
     let creds = ap (λ (st : List (Option Credential)). creds_in st t.slots.sealed) places ∙ cleared_creds t.master.slots w.slot t.slots.sealed in
     let id = c.lend_writer-writer.ensures.same ∙ c.lend-hold.ensures.rest.0 in
-    let out = c.lend_writer-writer.ensures.entries
-    ∙ (λ k. loan (sym writer.1 k) (sym writer.2 k) None ∷ c.lend-hold.ensures.entries k)
-    ∙ (λ k. loan w.label w.slot None ∷ loan (sym hold.1 k) (sym hold.2 k) (Some h.cred) ∷ t.master.entries) in
+    let out = c.lend_writer-writer.ensures.loans
+    ∙ (λ k. loan (sym writer.1 k) (sym writer.2 k) None ∷ c.lend-hold.ensures.loans k)
+    ∙ (λ k. loan w.label w.slot None ∷ loan (sym hold.1 k) (sym hold.2 k) (Some h.cred) ∷ t.master.loans) in
     rw (← c.self.view_is)
     (λ k. record { state = record s { creds = creds k }; words = record { id = id k; out = out k }; places = places k })
 

@@ -29,7 +29,8 @@ returns-in-Some-open_in c = λ call.
     let process = owner_process t.tasks c.args.task c.unwrap-process.result u.owner u.is c.unwrap-process.ensures c.process_of.ensures in
     let busy = busy_by (cast_within t.casts c.unwrap-process.result) (Some c.in-Some-open_in.cast) c.in-Some-open_in.ensures.number in
     rw (← c.self.view_is)
-    (begin_busy s c.args.line c.args.task call _ (sym has) u.owner u.is c.in-Some-open_in.cast (ap (λ (p : ℕ). not_busy (cast_within t.casts p)) (sym process) ∙ busy))
+    (begin_busy s c.args.line c.args.task call _ (sym has) u.owner u.is c.in-Some-open_in.cast
+    (ap (λ (p : ℕ). not_busy (cast_within t.casts p)) (sym process) ∙ busy))
 
 pub returns-then-is_some : goal.returns-then-is_some
 returns-then-is_some c = λ call.
@@ -50,7 +51,9 @@ returns-in-Some-overridden c = λ call.
     let u = current_is s c.args.task _ (sym has) in
     let process = owner_process t.tasks c.args.task c.unwrap-process.result u.owner u.is c.unwrap-process.ensures c.process_of.ensures in
     let idle = ap (cast_within t.casts) (sym process) ∙ none_open _ (cast_within t.casts c.unwrap-process.result) c.in_default-open_in.ensures.number in
-    let new = none_open _ (cast_under t.casts c.args.line) (sym (none_by_test c.caller_of.result c.is_some.result c.is_some.ensures c.if-is_some.false) ∙ c.caller_of.ensures) in
+    let new =
+    none_open _ (cast_under t.casts c.args.line)
+    (sym (none_by_test c.caller_of.result c.is_some.result c.is_some.ensures c.if-is_some.false) ∙ c.caller_of.ensures) in
     let over = rw (← c.self.view_is) at c.in-Some-overridden.ensures in
     rw (← c.self.view_is)
     (begin_overridden s c.args.line c.args.task call _ (sym has) u.owner u.is idle new c.in-Some-overridden.depth
@@ -64,7 +67,9 @@ returns c =
     let u = current_is s c.args.task _ (sym has) in
     let process = owner_process t.tasks c.args.task c.unwrap-process.result u.owner u.is c.unwrap-process.ensures c.process_of.ensures in
     let idle = ap (cast_within t.casts) (sym process) ∙ none_open _ (cast_within t.casts c.unwrap-process.result) c.in_default-open_in.ensures.number in
-    let new = none_open _ (cast_under t.casts c.args.line) (sym (none_by_test c.caller_of.result c.is_some.result c.is_some.ensures c.if-is_some.false) ∙ c.caller_of.ensures) in
+    let new =
+    none_open _ (cast_under t.casts c.args.line)
+    (sym (none_by_test c.caller_of.result c.is_some.result c.is_some.ensures c.if-is_some.false) ∙ c.caller_of.ensures) in
     let own = rw (← c.self.view_is) at c.in_default-overridden.ensures in
     rw (← c.self.view_is)
     (record {

@@ -1,7 +1,8 @@
 use Rattle.std.proofs.Common.{length, sym, ◌∙◌, arith}
 use Rattle.cred_model.proofs.Places.{none_by_test}
 use Rattle.cred_tables.specs.Kept.{as_parts, state_of}
-use Rattle.cred_state.proofs.Labelling.{present, held_hold, neither_found, no_number, prepare_no_task, prepare_busy, prepare_no_hold, prepare_exists, prepare_many, many_prepared}
+use Rattle.cred_state.proofs.Labelling.{present, held_hold, neither_found, no_number, prepare_no_task, prepare_busy, prepare_no_hold, prepare_exists}
+use Rattle.cred_state.proofs.Labelling.{prepare_many, many_prepared}
 use Rattle.cred_state.proofs.state.State.may_prepare.Goals as goal
 
 pub returns : goal.returns
@@ -67,4 +68,5 @@ returns-then-len-ge-PREPARED c =
     let labels = rw (← c.self.view_is) at c.has_label.ensures in
     let new = neither_found _ _ c.has_label.result labels c.if-has_label.false in
     rw (← c.self.view_is)
-    (prepare_many s c.args.label c.args.task c.args.hold owner.0 owner.1 idle base.0 base.1 new.0 new.1 (many_prepared (length t.prepared) c.len.result c.len.ensures c.if-len-ge-PREPARED.true))
+    (prepare_many s c.args.label c.args.task c.args.hold owner.0 owner.1 idle base.0 base.1 new.0 new.1
+    (many_prepared (length t.prepared) c.len.result c.len.ensures c.if-len-ge-PREPARED.true))

@@ -31,8 +31,11 @@ unfolding empty_table
 nothing-state_of store script = refl
 
 pub invariant_of-result : goal.invariant_of-result
-invariant_of-result c = rw (c.new-3.ensures, c.new-4.ensures, c.new-5.ensures, c.new-6.ensures, c.new-7.ensures, c.in_ok-slots.ensures, c.in_ok-dump.ensures)
-    (nothing-kept _ _, All-nil (λ (p : Prepared). IsAlone c.args.master.entries p.slot → slice_get c.args.master.slots p.slot ≡ Some (option_map (λ last. last.cred) p.changed)))
+invariant_of-result c = rw (c.new-3.ensures, c.new-4.ensures, c.new-5.ensures, c.new-6.ensures, c.new-7.ensures, c.in_ok-slots.ensures, c.in_ok-dump.ensures) (
+  nothing-kept _ _,
+  All-nil
+      (λ (p : Prepared). IsAlone c.args.master.loans p.slot → slice_get c.args.master.slots p.slot ≡ Some (option_map (λ last. last.cred) p.changed)),
+)
 
 pub returns-clause-state : goal.returns-clause-state
 unfolding empty_table

@@ -22,7 +22,8 @@ returns-then-not-push_override-clause-ok c =
     let deep = is_deep c.self.inside.tasks c.push_override.new.self c.args.task alive c.next_number-next.result c.push_override.result
     c.push_override.ensures.pushed c.push_override.ensures.tasks c.if-not-push_override.true in
     rw (← c.self.view_is, deep.same, c.in_ok-reserve.ensures.ok)
-    (does_same _ _ _ (access_deep _ c.args.task c.args.label deep.owner deep.lives unheld c.is_for_access.result c.is_for_access.ensures c.if-not-is_for_access.false deep.many))
+    (does_same _ _ _
+    (access_deep _ c.args.task c.args.label deep.owner deep.lives unheld c.is_for_access.result c.is_for_access.ensures c.if-not-is_for_access.false deep.many))
 
 pub seal_kept-number-requires-clause-slot : goal.seal_kept-number-requires-clause-slot
 seal_kept-number-requires-clause-slot c =
@@ -45,11 +46,12 @@ invariant_of-self-2 c =
     c.push_override.ensures.pushed c.push_override.ensures.tasks c.if-not-push_override.false in
     let out = rw (← c.self.view_is) at c.requires.out in
     let home = rw (← c.self.view_is) at c.requires.home in
-    let words = overridden_words t.master.entries c.self.invariant c.args.task c.args.label gives.place _ gives.found gives.there c.finish.result.1 refl sound out home in
+    let words =
+    overridden_words t.master.loans c.self.invariant c.args.task c.args.label gives.place _ gives.found gives.there c.finish.result.1 refl sound out home in
     rw gives.left (
       prepared_kept c.self.invariant.0 c.args.task c.push_override.new.self sound.tasks c.seal_kept-number.new.slots lent c.args.label gives.place _ gives.there
           sound.slots.own c.finish.result.1 c.in_ok-reserve.ensures.ok words c.seal_kept-number.ensures c.next_number-next.ensures,
-      put_less t.prepared gives.place t.master.entries t.master.slots c.self.invariant.1,
+      put_less t.prepared gives.place t.master.loans t.master.slots c.self.invariant.1,
     )
 
 pub returns-clause-ok : goal.returns-clause-ok
@@ -63,7 +65,8 @@ returns-clause-ok c =
     c.push_override.ensures.pushed c.push_override.ensures.tasks c.if-not-push_override.false in
     let out = rw (← c.self.view_is) at c.requires.out in
     let home = rw (← c.self.view_is) at c.requires.home in
-    let words = overridden_words t.master.entries c.self.invariant c.args.task c.args.label gives.place _ gives.found gives.there c.finish.result.1 refl sound out home in
+    let words =
+    overridden_words t.master.loans c.self.invariant c.args.task c.args.label gives.place _ gives.found gives.there c.finish.result.1 refl sound out home in
     let for = access_last t.prepared c.args.task c.args.label c.is_for_access.result c.is_for_access.ensures c.if-not-is_for_access.false gives.place _
     c.finish.result.1 gives.found gives.there refl in
     rw (← c.self.view_is, gives.left)

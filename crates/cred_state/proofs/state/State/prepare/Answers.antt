@@ -34,7 +34,8 @@ pub add-requires-clause-referred : goal.add-requires-clause-referred
 add-requires-clause-referred c =
     let t = c.self.inside in
     let may = rw (← c.self.view_is) at c.in-Ok.ensures in
-    let held : c.claim.new.self.held ≡ t.slots.held = ap (λ (x : Table). x.held) c.claim.ensures.table ∙ ap (λ (x : Table). x.held) c.in_ok-reserve.ensures.ok in
+    let held : c.claim.new.self.held ≡ t.slots.held =
+    ap (λ (x : Table). x.held) c.claim.ensures.table ∙ ap (λ (x : Table). x.held) c.in_ok-reserve.ensures.ok in
     held_is_referred c.claim.new.self c.in-Ok.base
     (rw (held, ← may.is) (hold-held_found c.self.invariant.0 c.args.hold may.base may.has))
 
@@ -49,7 +50,7 @@ invariant_of-self-2 c =
     rw (c.in_ok-prepare.ensures.ok, c.clear.ensures.made) (
       prepare_kept c.self.invariant.0 c.add.new.self p claim
           (rw (← may.is) (hold-held_found c.self.invariant.0 c.args.hold may.base may.has)),
-      put_more t.prepared p t.master.entries t.master.slots refl (omega (arith, c.clear.ensures.long, free_within t.slots slot claim.takes))
+      put_more t.prepared p t.master.loans t.master.slots refl (omega (arith, c.clear.ensures.long, free_within t.slots slot claim.takes))
           (free_apart c.self.invariant.0 slot claim.takes) c.self.invariant.1,
     )
 

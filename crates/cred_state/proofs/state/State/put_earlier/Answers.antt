@@ -19,12 +19,12 @@ invariant_of-self c =
     let at : w.slot ≡ slot = ap (λ (x : Written). x.slot) c.put_again.ensures.put in
     let puts : w.put ≡ earlier_of c.args.self.now.state c.args.label = ap (λ (x : Written). x.put) c.put_again.ensures.put in
     let again : w.put ≡ earlier_of s c.args.label = rw (← c.self.view_is) at puts in
-    let taken = subst (λ (n : ℕ). IsTaken t.master.entries (loan n slot None) new.entries) c.requires.label
-    (subst (λ (x : Written). IsTaken t.master.entries (loan x.label x.slot None) new.entries) c.put_again.ensures.put c.take_back.ensures.entry) in
+    let taken = subst (λ (n : ℕ). IsTaken t.master.loans (loan n slot None) new.loans) c.requires.label
+    (subst (λ (x : Written). IsTaken t.master.loans (loan x.label x.slot None) new.loans) c.put_again.ensures.put c.take_back.ensures.taken) in
     let slots : new.slots ≡ slice_set t.master.slots slot w.put = c.take_back.ensures.slots ∙ ap (λ (n : ℕ). slice_set t.master.slots n w.put) at in
     let there : slice_get new.slots slot ≡ Some w.put = ap (slice_get new.slots) (sym at) ∙ c.take_back.ensures.slot in
     let lt = set_within t.master.slots new.slots slot w.put slots there in
-    rw slots (earlier_kept c.self.invariant sound are c.args.label slot new.entries taken w.put lt again)
+    rw slots (earlier_kept c.self.invariant sound are c.args.label slot new.loans taken w.put lt again)
 
 pub returns-clause-like : goal.returns-clause-like
 returns-clause-like c =
@@ -38,12 +38,12 @@ returns-clause-like c =
     let at : w.slot ≡ slot = ap (λ (x : Written). x.slot) c.put_again.ensures.put in
     let puts : w.put ≡ earlier_of c.args.self.now.state c.args.label = ap (λ (x : Written). x.put) c.put_again.ensures.put in
     let again : w.put ≡ earlier_of s c.args.label = rw (← c.self.view_is) at puts in
-    let taken = subst (λ (n : ℕ). IsTaken t.master.entries (loan n slot None) new.entries) c.requires.label
-    (subst (λ (x : Written). IsTaken t.master.entries (loan x.label x.slot None) new.entries) c.put_again.ensures.put c.take_back.ensures.entry) in
+    let taken = subst (λ (n : ℕ). IsTaken t.master.loans (loan n slot None) new.loans) c.requires.label
+    (subst (λ (x : Written). IsTaken t.master.loans (loan x.label x.slot None) new.loans) c.put_again.ensures.put c.take_back.ensures.taken) in
     let slots : new.slots ≡ slice_set t.master.slots slot w.put = c.take_back.ensures.slots ∙ ap (λ (n : ℕ). slice_set t.master.slots n w.put) at in
     let there : slice_get new.slots slot ≡ Some w.put = ap (slice_get new.slots) (sym at) ∙ c.take_back.ensures.slot in
     let lt = set_within t.master.slots new.slots slot w.put slots there in
-    rw (← c.self.view_is, slots) (earlier_like c.self.invariant sound are c.args.label slot new.entries taken w.put lt again)
+    rw (← c.self.view_is, slots) (earlier_like c.self.invariant sound are c.args.label slot new.loans taken w.put lt again)
 
 pub returns-clause-state : goal.returns-clause-state
 returns-clause-state c =

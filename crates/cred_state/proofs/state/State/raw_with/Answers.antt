@@ -40,7 +40,8 @@ set_like-requires-clause-sealed c =
     let t = c.self.inside in
     let s = state_of (as_parts t.tasks t.casts t.files t.holds t.prepared t.dump t.infos) t.master.slots t.slots in
     let may = rw (← c.self.view_is) at c.requires.may in
-    found-sealed c.self.invariant.0 c.args.now (is_found s.creds (λ (t : Task). t.current) (task_of s c.args.task) _ may.has) (current-in_use s c.args.task _ may.has)
+    found-sealed c.self.invariant.0 c.args.now (is_found s.creds (λ (t : Task). t.current) (task_of s c.args.task) _ may.has)
+    (current-in_use s c.args.task _ may.has)
 
 pub set_like-requires-clause-apart : goal.set_like-requires-clause-apart
 set_like-requires-clause-apart c =
@@ -49,7 +50,8 @@ set_like-requires-clause-apart c =
     let may = rw (← c.self.view_is) at c.requires.may in
     let seals = seals_spare {t = t.slots} c.in_ok-reserve.ensures.ok c.seal_next-number.ensures in
     stands_apart seals c.args.now.number c.args.now.slot
-    (found-slot c.self.invariant.0 c.args.now (is_found s.creds (λ (t : Task). t.current) (task_of s c.args.task) _ may.has) (current-in_use s c.args.task _ may.has))
+    (found-slot c.self.invariant.0 c.args.now (is_found s.creds (λ (t : Task). t.current) (task_of s c.args.task) _ may.has)
+    (current-in_use s c.args.task _ may.has))
     (bag-keeps c.args.now.number seals.held (current-held c.self.invariant.0 c.args.task _ may.has))
 
 pub set_like-requires-clause-valid : goal.set_like-requires-clause-valid
@@ -86,12 +88,15 @@ invariant_of-self-2 c =
     let t = c.self.inside in
     let s = state_of (as_parts t.tasks t.casts t.files t.holds t.prepared t.dump t.infos) t.master.slots t.slots in
     let new = changed (cred_under s.creds c.args.now.number) c.args.parts.now c.args.groups.now in
-    let made = c.set_like.ensures.made _ (found-place c.self.invariant.0 c.args.now (is_found s.creds (λ (t : Task). t.current) (task_of s c.args.task) _ may.has) (current-in_use s c.args.task _ may.has)) in
+    let made =
+    c.set_like.ensures.made _
+    (found-place c.self.invariant.0 c.args.now (is_found s.creds (λ (t : Task). t.current) (task_of s c.args.task) _ may.has)
+    (current-in_use s c.args.task _ may.has)) in
     rw (c.set_current.ensures.tasks, made) (
       replaced_kept c.self.invariant.0 c.drop_later.new.self c.args.task _ new may.has c.set_like.ensures.long
           (seals_spare c.in_ok-reserve.ensures.ok c.seal_next-number.ensures) sound.tasks (drops c.drop_later.ensures.held c.drop_later.ensures.table)
           t.casts c.renew_in.new.dump,
-      put_free c.self.inside.prepared c.self.inside.master.entries c.self.inside.master.slots c.in-Some.slot (Some new)
+      put_free c.self.inside.prepared c.self.inside.master.loans c.self.inside.master.slots c.in-Some.slot (Some new)
           (free_apart c.self.invariant.0 c.in-Some.slot (some_spare c.self.inside.slots c.in_ok-reserve.ensures.ok (sym c.in-Some.ensures))) c.self.invariant.1,
     )
 
@@ -103,7 +108,10 @@ returns-clause-ok c = λ call given.
     let rule = rw (← c.self.view_is) at given in
     let s = state_of (as_parts t.tasks t.casts t.files t.holds t.prepared t.dump t.infos) t.master.slots t.slots in
     let new = changed (cred_under s.creds c.args.now.number) c.args.parts.now c.args.groups.now in
-    let made = c.set_like.ensures.made _ (found-place c.self.invariant.0 c.args.now (is_found s.creds (λ (t : Task). t.current) (task_of s c.args.task) _ may.has) (current-in_use s c.args.task _ may.has)) in
+    let made =
+    c.set_like.ensures.made _
+    (found-place c.self.invariant.0 c.args.now (is_found s.creds (λ (t : Task). t.current) (task_of s c.args.task) _ may.has)
+    (current-in_use s c.args.task _ may.has)) in
     let other = rw (← c.self.view_is) at c.requires.other in
     let flags = c.renew_in.ensures may.owner may.lives
     ∙ ap (renewed t.dump may.owner.process) other in
@@ -116,7 +124,10 @@ returns-clause-words c =
     let t = c.self.inside in
     let s = state_of (as_parts t.tasks t.casts t.files t.holds t.prepared t.dump t.infos) t.master.slots t.slots in
     let may = rw (← c.self.view_is) at c.requires.may in
-    let made = c.set_like.ensures.made _ (found-place c.self.invariant.0 c.args.now (is_found s.creds (λ (t : Task). t.current) (task_of s c.args.task) _ may.has) (current-in_use s c.args.task _ may.has)) in
+    let made =
+    c.set_like.ensures.made _
+    (found-place c.self.invariant.0 c.args.now (is_found s.creds (λ (t : Task). t.current) (task_of s c.args.task) _ may.has)
+    (current-in_use s c.args.task _ may.has)) in
     rw (← c.self.view_is, made) refl
 
 pub invariant_of-self : goal.invariant_of-self

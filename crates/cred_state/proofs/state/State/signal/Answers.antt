@@ -40,7 +40,8 @@ take_hold_back-requires-2-clause-apart c =
     let sound : IsSound mid.state = rw second.lent (lent_sound were) in
     let out : AreOut mid.state mid.words.out = rw second.lent (lent_are were) in
     rw c.take_hold_back.ensures.state
-    (apart_taken (kept mid.state) mid.words.out _ c.take_hold_back.new.self.words.out (holds_apart mid.state mid.words.out sound out) c.take_hold_back.ensures.taken)
+    (apart_taken (kept mid.state) mid.words.out _ c.take_hold_back.new.self.words.out (holds_apart mid.state mid.words.out sound out)
+    c.take_hold_back.ensures.taken)
 
 pub returns-clause-same : goal.returns-clause-same
 returns-clause-same c =

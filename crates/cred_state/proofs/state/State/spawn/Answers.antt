@@ -43,7 +43,8 @@ pub invariant_of-self : goal.invariant_of-self
 invariant_of-self c = rw c.in_err-reserve.ensures.err c.self.invariant
 
 pub invariant_of-self-in_err-spawn_in : goal.invariant_of-self-in_err-spawn_in
-invariant_of-self-in_err-spawn_in c = rw (c.in_err-spawn_in.ensures.no_tasks, c.in_err-spawn_in.ensures.no_casts) (kept_spare c.self.invariant.0 c.in_ok-reserve.ensures.ok, c.self.invariant.1)
+invariant_of-self-in_err-spawn_in c =
+    rw (c.in_err-spawn_in.ensures.no_tasks, c.in_err-spawn_in.ensures.no_casts) (kept_spare c.self.invariant.0 c.in_ok-reserve.ensures.ok, c.self.invariant.1)
 
 pub invariant_of-self-2 : goal.invariant_of-self-2
 invariant_of-self-2 c =
@@ -53,7 +54,8 @@ invariant_of-self-2 c =
     let u = current_is s c.args.task _ may.0.has in
     let grown = c.in_ok-spawn_in.ensures.tasks
     ∙ ap (λ (found : Option Task). option_map_or (λ o. t.tasks ++ first_task c.args.child o.process o.current ∷ []) found t.tasks) u.is in (
-      kept_child c.self.invariant.0 c.spawn_in.new.tasks c.args.child u.owner.process u.owner grown u.number c.in_ok-reserve.ensures.ok c.add.ensures.held c.add.ensures.table
+      kept_child c.self.invariant.0 c.spawn_in.new.tasks c.args.child u.owner.process u.owner grown u.number c.in_ok-reserve.ensures.ok c.add.ensures.held
+          c.add.ensures.table
           (current-held c.self.invariant.0 c.args.task _ may.0.has) c.spawn_in.new.casts,
       c.self.invariant.1,
     )
@@ -63,4 +65,5 @@ returns-clause-ok c =
     let may = rw (← c.self.view_is) at c.in-Ok.ensures in
     let t = c.self.inside in
     rw (← c.self.view_is)
-    (spawn_done (as_parts t.tasks t.casts t.files t.holds t.prepared t.dump t.infos) t.master.slots t.slots c.in_ok-reserve.ensures.ok c.add.ensures.table c.args.task c.args.child _ may.0 c.in_ok-spawn_in.ensures.tasks c.in_ok-spawn_in.ensures.casts)
+    (spawn_done (as_parts t.tasks t.casts t.files t.holds t.prepared t.dump t.infos) t.master.slots t.slots c.in_ok-reserve.ensures.ok c.add.ensures.table
+    c.args.task c.args.child _ may.0 c.in_ok-spawn_in.ensures.tasks c.in_ok-spawn_in.ensures.casts)

@@ -21,7 +21,8 @@ returns-in_default-clause-ok c = λ user group ns root is.
     rw (← c.self.view_is)
     (init_full c.self.invariant.0 c.sweep.new.self c.args.number c.args.process idle new room user group ns root
     (none_spare t.slots c.in_ok-reserve.ensures.ok none)
-    (roomy_spare (as_parts t.tasks t.casts t.files t.holds t.prepared t.dump t.infos) t.master.slots t.slots _ _ _ c.in_ok-reserve.ensures.ok (c.sweep.ensures ∙ sym (full_swept c.reserve.new.self none))))
+    (roomy_spare (as_parts t.tasks t.casts t.files t.holds t.prepared t.dump t.infos) t.master.slots t.slots _ _ _ c.in_ok-reserve.ensures.ok
+    (c.sweep.ensures ∙ sym (full_swept c.reserve.new.self none))))
 
 pub start_in-requires-clause-new : goal.start_in-requires-clause-new
 start_in-requires-clause-new c = rw (← c.self.view_is) at c.requires.new
@@ -44,11 +45,12 @@ pub invariant_of-self-2 : goal.invariant_of-self-2
 invariant_of-self-2 c =
     let t = c.self.inside in
     let seals = c.seal_next-current.ensures in
-    let tasks = started t.tasks c.start_in.new.tasks c.args.number c.args.process _ _ c.in_ok-start_in.ensures.tasks (c.next_number-next.ensures ∙ sym seals.counted) in
+    let tasks =
+    started t.tasks c.start_in.new.tasks c.args.number c.args.process _ _ c.in_ok-start_in.ensures.tasks (c.next_number-next.ensures ∙ sym seals.counted) in
     rw (tasks, c.set.ensures.made) (
       init_kept c.self.invariant.0 c.seal_next-current.new.slots c.args.number c.args.process c.set.ensures.long
           (seals_spare c.in_ok-reserve.ensures.ok seals) c.args.cred.now c.start_in.new.dump,
-      put_free t.prepared t.master.entries t.master.slots c.in-Some.slot (Some c.args.cred.now)
+      put_free t.prepared t.master.loans t.master.slots c.in-Some.slot (Some c.args.cred.now)
           (free_apart c.self.invariant.0 c.in-Some.slot (some_spare t.slots c.in_ok-reserve.ensures.ok (sym c.in-Some.ensures))) c.self.invariant.1,
     )
 
@@ -56,7 +58,8 @@ pub returns-clause-ok : goal.returns-clause-ok
 returns-clause-ok c = λ user group ns root is.
     let t = c.self.inside in
     let seals = c.seal_next-current.ensures in
-    let tasks = started t.tasks c.start_in.new.tasks c.args.number c.args.process _ _ c.in_ok-start_in.ensures.tasks (c.next_number-next.ensures ∙ sym seals.counted) in
+    let tasks =
+    started t.tasks c.start_in.new.tasks c.args.number c.args.process _ _ c.in_ok-start_in.ensures.tasks (c.next_number-next.ensures ∙ sym seals.counted) in
     let store = ap (λ (m : Mastered). m.slots) c.set.ensures.made ∙ ap (λ (x : Credential). slice_set t.master.slots c.in-Some.slot (Some x)) is in
     let idle = rw (← c.self.view_is) at c.requires.idle in
     let new = rw (← c.self.view_is) at c.requires.new in

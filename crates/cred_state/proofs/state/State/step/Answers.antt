@@ -10,7 +10,10 @@ pub commit-requires-clause-home : goal.commit-requires-clause-home
 commit-requires-clause-home c = rw c.in-Commit.is at c.requires.home
 
 pub returns-in-Take-clause-ok : goal.returns-in-Take-clause-ok
-returns-in-Take-clause-ok c = rw c.in-Take.is (gives_ok c.args.self.now.state c.take.new.self.state (by_take c.args.self.now.state c.in-Take.label c.in-Take.task c.in-Take.side) c.take.result c.take.ensures.ok)
+returns-in-Take-clause-ok c =
+    rw c.in-Take.is
+    (gives_ok c.args.self.now.state c.take.new.self.state (by_take c.args.self.now.state c.in-Take.label c.in-Take.task c.in-Take.side) c.take.result
+    c.take.ensures.ok)
 
 pub returns-in-Release-clause-ok : goal.returns-in-Release-clause-ok
 returns-in-Release-clause-ok c = rw c.in-Release.is (does_same _ _ _ c.release.ensures.made)

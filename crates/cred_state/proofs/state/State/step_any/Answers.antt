@@ -26,7 +26,10 @@ pub override_with-requires-clause-home : goal.override_with-requires-clause-home
 override_with-requires-clause-home c = rw c.in-Override.is at c.requires.home
 
 pub returns-in-Take-clause-ok : goal.returns-in-Take-clause-ok
-returns-in-Take-clause-ok c = rw c.in-Take.is (gives_ok c.args.self.now.state c.take.new.self.state (by_take c.args.self.now.state c.in-Take.label c.in-Take.task c.in-Take.side) c.take.result c.take.ensures.ok)
+returns-in-Take-clause-ok c =
+    rw c.in-Take.is
+    (gives_ok c.args.self.now.state c.take.new.self.state (by_take c.args.self.now.state c.in-Take.label c.in-Take.task c.in-Take.side) c.take.result
+    c.take.ensures.ok)
 
 pub returns-in-Release-clause-ok : goal.returns-in-Release-clause-ok
 returns-in-Release-clause-ok c = rw c.in-Release.is (does_same _ _ _ c.release.ensures.made)
@@ -44,16 +47,25 @@ pub returns-in-Act-clause-ok : goal.returns-in-Act-clause-ok
 returns-in-Act-clause-ok c = rw c.in-Act.is c.act.ensures.ok
 
 pub returns-in-Spawn-clause-ok : goal.returns-in-Spawn-clause-ok
-returns-in-Spawn-clause-ok c = rw c.in-Spawn.is (gives_ok c.args.self.now.state c.spawn.new.self.state (by_spawn c.args.self.now.state c.in-Spawn.task c.in-Spawn.child) c.spawn.result c.spawn.ensures.ok)
+returns-in-Spawn-clause-ok c =
+    rw c.in-Spawn.is
+    (gives_ok c.args.self.now.state c.spawn.new.self.state (by_spawn c.args.self.now.state c.in-Spawn.task c.in-Spawn.child) c.spawn.result c.spawn.ensures.ok)
 
 pub returns-in-Fork-clause-ok : goal.returns-in-Fork-clause-ok
-returns-in-Fork-clause-ok c = rw c.in-Fork.is (gives_ok c.args.self.now.state c.fork.new.self.state (by_fork c.args.self.now.state c.in-Fork.task c.in-Fork.child c.in-Fork.process) c.fork.result c.fork.ensures.ok)
+returns-in-Fork-clause-ok c =
+    rw c.in-Fork.is
+    (gives_ok c.args.self.now.state c.fork.new.self.state (by_fork c.args.self.now.state c.in-Fork.task c.in-Fork.child c.in-Fork.process) c.fork.result
+    c.fork.ensures.ok)
 
 pub returns-in-Exit-clause-ok : goal.returns-in-Exit-clause-ok
-returns-in-Exit-clause-ok c = rw c.in-Exit.is (gives_ok c.args.self.now.state c.exit.new.self.state (by_exit c.args.self.now.state c.in-Exit.task) c.exit.result c.exit.ensures.ok)
+returns-in-Exit-clause-ok c =
+    rw c.in-Exit.is (gives_ok c.args.self.now.state c.exit.new.self.state (by_exit c.args.self.now.state c.in-Exit.task) c.exit.result c.exit.ensures.ok)
 
 pub returns-in-TakeFile-clause-ok : goal.returns-in-TakeFile-clause-ok
-returns-in-TakeFile-clause-ok c = rw c.in-TakeFile.is (gives_ok c.args.self.now.state c.take_file.new.self.state (by_take_file c.args.self.now.state c.in-TakeFile.label c.in-TakeFile.fd) c.take_file.result c.take_file.ensures.ok)
+returns-in-TakeFile-clause-ok c =
+    rw c.in-TakeFile.is
+    (gives_ok c.args.self.now.state c.take_file.new.self.state (by_take_file c.args.self.now.state c.in-TakeFile.label c.in-TakeFile.fd) c.take_file.result
+    c.take_file.ensures.ok)
 
 pub returns-in-Abort-clause-ok : goal.returns-in-Abort-clause-ok
 returns-in-Abort-clause-ok c = rw c.in-Abort.is (does_same _ _ _ c.abort.ensures.made)

@@ -11,5 +11,6 @@ take_hold-requires c = opener-in_use c.args.self.now.state c.args.fd _ (sym c.in
 pub returns-clause-ok : goal.returns-clause-ok
 returns-clause-ok c =
     let s = c.args.self.now.state in
-    takes_hold s c.take_hold.new.self.state (by_take_file s c.args.label c.args.fd) c.args.label (seen_in s.creds c.in-Some.field-0) (rw (← c.in-Some.ensures) refl)
+    takes_hold s c.take_hold.new.self.state (by_take_file s c.args.label c.args.fd) c.args.label (seen_in s.creds c.in-Some.field-0)
+    (rw (← c.in-Some.ensures) refl)
     c.take_hold.result c.take_hold.ensures.ok

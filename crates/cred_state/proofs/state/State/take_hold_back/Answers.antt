@@ -9,5 +9,6 @@ invariant_of-self c =
     let apart = rw (← c.self.view_is) at c.requires.apart in
     rw c.give_back.ensures.rest.1 (
       c.self.invariant.0,
-      held_put s t.master.entries c.give_back.new.self.entries t.master.slots c.args.hold.label c.args.hold.slot c.args.hold.cred apart c.give_back.ensures.entry c.self.invariant.1,
+      held_put s t.master.loans c.give_back.new.self.loans t.master.slots c.args.hold.label c.args.hold.slot c.args.hold.cred apart c.give_back.ensures.taken
+          c.self.invariant.1,
     )

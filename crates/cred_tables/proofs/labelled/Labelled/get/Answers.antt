@@ -6,7 +6,8 @@ use Rattle.cred_tables.proofs.labelled.Labelled.get.Goals.{in_default-via-in-Som
 pub returns-in-Some : goal.returns-in-Some
 returns-in-Some g c =
     rw (← c.self.view_is)
-    (sym (lookup-own c.args.label c.self.inside.older.entries c.self.inside.newest c.in-Some.own c.in-Some.value c.in-Some.is c.if-own-label.true c.self.invariant))
+    (sym
+    (lookup-own c.args.label c.self.inside.older.entries c.self.inside.newest c.in-Some.own c.in-Some.value c.in-Some.is c.if-own-label.true c.self.invariant))
 
 pub returns-in_default-2 : goal.returns-in_default-2
 returns-in_default-2 g c =

@@ -9,7 +9,8 @@ use Rattle.cred_tables.specs.declared.labelled.Labelled.TheInside.{Inside}
 use Rattle.cred_tables.proofs.NewestApart.{distinct, newest_new}
 use Rattle.cred_tables.proofs.labelled.Labelled.push.Given.{Over}
 use Rattle.cred_tables.proofs.labelled.Labelled.push.Goals as goal
-use Rattle.cred_tables.proofs.labelled.Labelled.push.Goals.{then-is_some+in_ok-reserve, else-is_some, in-Some+in_ok-insert+in-Some-1, in-Some+in_ok-insert+in-None-1, in_default}
+use Rattle.cred_tables.proofs.labelled.Labelled.push.Goals.{then-is_some+in_ok-reserve, else-is_some, in-Some+in_ok-insert+in-Some-1}
+use Rattle.cred_tables.proofs.labelled.Labelled.push.Goals.{in-Some+in_ok-insert+in-None-1, in_default}
 
 module _ (g : Over) (c : goal.Joined-self g) where
   -- room is made, and nothing else

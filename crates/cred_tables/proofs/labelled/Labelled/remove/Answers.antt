@@ -12,13 +12,17 @@ pub returns-in_ok-value-in-Some-clause-value : goal.returns-in_ok-value-in-Some-
 returns-in_ok-value-in-Some-clause-value g c =
     let taken = sym c.in-Some.is ∙ sym c.take.ensures.value ∙ c.in_ok-value-in-Some.was in
     rw (← c.self.view_is)
-    (sym (lookup-own c.args.label c.self.inside.older.entries c.self.inside.newest c.in-Some.own c.in-Some.field-0-1 c.in-Some.is c.if-own-label.true c.self.invariant
+    (sym
+    (lookup-own c.args.label c.self.inside.older.entries c.self.inside.newest c.in-Some.own c.in-Some.field-0-1 c.in-Some.is c.if-own-label.true
+    c.self.invariant
     ∙ ap (option_map (λ e. e.1)) taken))
 
 pub returns-in_ok-value-in-Some-clause-left : goal.returns-in_ok-value-in-Some-clause-left
 returns-in_ok-value-in-Some-clause-left g c =
     rw (← c.self.view_is, c.take.ensures.after)
-    (sym (remove-own c.args.label c.self.inside.older.entries c.self.inside.newest c.in-Some.own c.in-Some.field-0-1 c.in-Some.is c.if-own-label.true c.self.invariant))
+    (sym
+    (remove-own c.args.label c.self.inside.older.entries c.self.inside.newest c.in-Some.own c.in-Some.field-0-1 c.in-Some.is c.if-own-label.true
+    c.self.invariant))
 
 module _ (g : Over) (c : goal.After-shift_remove g) where
   same : c.in_default.self-inside ≡ c.self.inside

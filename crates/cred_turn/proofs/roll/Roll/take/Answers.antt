@@ -17,5 +17,6 @@ load-requires c =
     let i = c.self.invariant in
     let words = i.1 in
     let j = c.join_seat.ensures in
-    let is : c.join_seat.new.seat.me ≡ held (Roll (rows_of c.self.inside.seat.me.0) (Some (lent_of c.pass.inside.seat.me.0))) = j.2 ∙ came_back _ _ _ _ i.3 c.pass.invariant in
+    let is : c.join_seat.new.seat.me ≡ held (Roll (rows_of c.self.inside.seat.me.0) (Some (lent_of c.pass.inside.seat.me.0))) =
+    j.2 ∙ came_back _ _ _ _ i.3 c.pass.invariant in
     (j.0 ∙ i.0, omega arith, learns_as _ _ (rows_of c.self.inside.seat.me.0) (lent_of c.pass.inside.seat.me.0) _ (j.1 ∙ i.2) is)

@@ -1,0 +1,10 @@
+pub mod Courses
+pub mod Due
+pub mod Lanes
+pub mod AllLanes
+pub mod Turns
+pub mod Least
+pub mod Waiting
+pub mod WaitingSteps
+pub mod Measure
+pub mod StagesLeft

@@ -1,5 +1,0 @@
-use Rattle.std.proofs.Common.{rules}
-use Rattle.cred_cursor.proofs.cursors.Cursors.due.Goals as goal
-
-pub returns : goal.returns
-returns c = search rules

@@ -1,5 +1,0 @@
-use Rattle.cred_cursor.proofs.Least.{IsLeastBelow}
-use Rattle.cred_cursor.proofs.cursors.least_of.Given as goal
-
-abbrev pub invariant-lanes : goal.invariant-lanes
-invariant-lanes l = IsLeastBelow l.cursors l.least l.lane

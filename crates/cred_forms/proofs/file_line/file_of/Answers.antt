@@ -1,8 +1,0 @@
-use Rattle.std.proofs.Common.{arith}
-use Rattle.std.proofs.lemmas.Grind.{common_steps}
-use Rattle.cred_forms.specs.Files.{file_of}
-use Rattle.cred_forms.proofs.file_line.file_of.Goals as goal
-
-pub returns : goal.returns
-unfolding file_of
-returns c = grind (arith, common_steps)

@@ -1,4 +1,0 @@
-pub mod Waiting
-pub mod WaitingSteps
-pub mod Measure
-pub mod Stages

@@ -1,4 +1,0 @@
-pub mod Order
-pub mod Goes
-pub mod Ends
-pub mod Pushed

@@ -1,3 +1,0 @@
-mod Digits
-mod LastDigit
-mod Pieces

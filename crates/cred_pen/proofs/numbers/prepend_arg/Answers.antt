@@ -1,5 +1,0 @@
-use Rattle.std.proofs.Common.{rules}
-use Rattle.cred_pen.proofs.numbers.prepend_arg.Goals as goal
-
-pub returns-in-Keep-clause-text : goal.returns-in-Keep-clause-text
-returns-in-Keep-clause-text c = search rules
