@@ -50,7 +50,7 @@ may_be_denied (SetGroups groups) = true
 -- an id call
 abbrev pub begin_row : IdCall → Answer → Bool
 begin_row call (NoTask task) = true
-begin_row call (Busy cast) = true
+begin_row call (Busy broadcast) = true
 begin_row call (Exists Broadcast number) = true
 begin_row call (Overridden depth) = true
 begin_row call Eperm = may_be_denied call
@@ -62,7 +62,7 @@ begin_row call answer = false
 -- an id call of one thread alone
 abbrev pub raw_row : IdCall → Answer → Bool
 raw_row call (NoTask task) = true
-raw_row call (Busy cast) = true
+raw_row call (Busy broadcast) = true
 raw_row call (Overridden depth) = true
 raw_row call Eperm = may_be_denied call
 raw_row call Einval = is_invalid call

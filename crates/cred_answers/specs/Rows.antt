@@ -27,7 +27,7 @@ use Rattle.cred_answers.specs.CallRows.{adjust_row, begin_row, raw_row}
 
 -- a first task
 abbrev pub init_row : Answer → Bool
-init_row (Busy cast) = true
+init_row (Busy broadcast) = true
 init_row (Exists Task number) = true
 init_row (TooMany Tasks) = true
 init_row TableFull = true
@@ -114,7 +114,7 @@ signal_row answer = false
 -- the preparation of a credential
 abbrev pub prepare_row : Answer → Bool
 prepare_row (NoTask task) = true
-prepare_row (Busy cast) = true
+prepare_row (Busy broadcast) = true
 prepare_row (NoHold label) = true
 prepare_row (Exists Label number) = true
 prepare_row (TooMany Prepared) = true
@@ -147,7 +147,7 @@ access_row answer = false
 abbrev pub commit_row : Answer → Bool
 commit_row (NoPrepared label) = true
 commit_row (NoTask task) = true
-commit_row (Busy cast) = true
+commit_row (Busy broadcast) = true
 commit_row (Overridden depth) = true
 commit_row (Stale base now) = true
 commit_row (Sealed cred slot) = true
@@ -177,7 +177,7 @@ revert_row answer = false
 
 -- a thread that follows an id call
 abbrev pub act_row : Answer → Bool
-act_row (NoBroadcast cast) = true
+act_row (NoBroadcast broadcast) = true
 act_row (Aborted task cause) = true
 act_row (Acted task cred slot left) = true
 act_row answer = false
@@ -200,7 +200,7 @@ close_row answer = false
 -- a new thread
 abbrev pub spawn_row : Answer → Bool
 spawn_row (NoTask task) = true
-spawn_row (Busy cast) = true
+spawn_row (Busy broadcast) = true
 spawn_row (Exists Task number) = true
 spawn_row (Overridden depth) = true
 spawn_row (TooMany Tasks) = true
@@ -210,7 +210,7 @@ spawn_row answer = false
 -- a new process
 abbrev pub fork_row : Answer → Bool
 fork_row (NoTask task) = true
-fork_row (Busy cast) = true
+fork_row (Busy broadcast) = true
 fork_row (Exists Task number) = true
 fork_row (Exists Process number) = true
 fork_row (Overridden depth) = true
@@ -221,7 +221,7 @@ fork_row answer = false
 -- the end of a task
 abbrev pub exit_row : Answer → Bool
 exit_row (NoTask task) = true
-exit_row (Busy cast) = true
+exit_row (Busy broadcast) = true
 exit_row (Overridden depth) = true
 exit_row Done = true
 exit_row answer = false
@@ -305,7 +305,7 @@ may_answer (event.Abort label) answer = abort_row answer
 may_answer (event.Override task label) answer = override_row answer
 may_answer (event.Revert task) answer = revert_row answer
 may_answer (event.Begin task call) answer = begin_row call answer
-may_answer (event.Act cast) answer = act_row answer
+may_answer (event.Act broadcast) answer = act_row answer
 may_answer (event.OpenFile hold file want fd) answer = open_row answer
 may_answer (event.CloseFile fd) answer = close_row answer
 may_answer (event.Spawn task child) answer = spawn_row answer

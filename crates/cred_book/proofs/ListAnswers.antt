@@ -26,17 +26,17 @@ use Rattle.cred_model.specs.FileChanges.{changed_by}
 use Rattle.cred_model.specs.Script.{Script, chain_of, root_of, reaches}
 use Rattle.cred_model.specs.Dumpable.{differs, flag_of_value, flags_begun, flags_committed, is_dumpable, renewed}
 use Rattle.cred_model.specs.Ptrace.{may_trace}
-use Rattle.cred_model.specs.State.{State, Task, Broadcast, Prepared, Changed, Numbered, credential_of, opener_of, numbered, task_of, cast_of, cast_in, begun_by}
+use Rattle.cred_model.specs.State.{State, Task, Broadcast, Prepared, Changed, Numbered, credential_of, opener_of, numbered, task_of, broadcast_of, broadcast_in, begun_by}
 use Rattle.cred_model.specs.State.{open_of, hold_of, prepared_of, held_by, info_of}
 use Rattle.cred_model.specs.Named.{change_files}
 use Rattle.cred_model.specs.Answers.{checked}
 use Rattle.cred_model.specs.Change.{Made, made_by_rule, made_by_exec, made_by_execve, by_change, by_rule}
 use Rattle.cred_model.specs.Ends.{is_thread_of, ended}
-use Rattle.cred_model.specs.Casts.{others_of, with_cast, waits_no_more}
+use Rattle.cred_model.specs.Casts.{others_of, with_broadcast, waits_no_more}
 use Rattle.cred_model.specs.Like.{IsLike, IsOutcomeLike}
 use Rattle.cred_model.specs.Moves.{table_full, first_task, created, replaced, preparing, given_up}
 use Rattle.cred_model.specs.Moves.{committed}
-use Rattle.cred_model.specs.Step.{aborted, by_file, casts_after, commit_answer, committed_by, ends_with, follow, for_access, for_task, outcome, override_held}
+use Rattle.cred_model.specs.Step.{aborted, by_file, broadcasts_after, commit_answer, committed_by, ends_with, follow, for_access, for_task, outcome, override_held}
 use Rattle.cred_model.specs.Step.{override_prepared, step, take_hold, try_commit}
 use Rattle.cred_sound.proofs.Tests.{IfAllowed, outcome_has, if_some, if_none, if_either, if_fewer, if_passed, if_idle, if_own, if_last, if_file_rule, if_rule}
 use Rattle.cred_sound.proofs.Tests.{if_ok, in_slots}
@@ -88,7 +88,7 @@ tries_commit : (s : State) (place : ℕ) (p : Prepared) (owner : Task) (last : C
 tries_commit s place p owner last =
     let ends = ends_with last.change owner in
     let count = count_by ends s.tasks in
-    let now = casts_after last.change owner (committed (ended ends s) place p owner.current last.cred) in
+    let now = broadcasts_after last.change owner (committed (ended ends s) place p owner.current last.cred) in
     elim (owner.current == p.base) as (λ b. Leaves s (cond {A = Answer × State} b (
       commit_answer last (length s.creds) p.slot count,
       record now { dumpable = flags_committed s owner last },
@@ -97,15 +97,15 @@ tries_commit s place p owner last =
       | false ↦ λ list. absurd list
     ]
 
-follows_plainly : (s : State) (cast : Broadcast) (task : ℕ) (owner : Task) (old : Numbered)
-    (made : Result Credential Denial) → Leaves s (follow s cast task owner old (by_rule made))
-follows_plainly s cast task owner old (Err refusal) = λ list. absurd list
-follows_plainly s cast task owner old (Ok new) =
-    in_slots (Leaves s) s (λ now. (Aborted task cause.Full, aborted cast now))
+follows_plainly : (s : State) (broadcast : Broadcast) (task : ℕ) (owner : Task) (old : Numbered)
+    (made : Result Credential Denial) → Leaves s (follow s broadcast task owner old (by_rule made))
+follows_plainly s broadcast task owner old (Err refusal) = λ list. absurd list
+follows_plainly s broadcast task owner old (Ok new) =
+    in_slots (Leaves s) s (λ now. (Aborted task cause.Full, aborted broadcast now))
     (λ now slot. (
-      Acted task (length now.creds) slot (length cast.waiting - 1),
+      Acted task (length now.creds) slot (length broadcast.waiting - 1),
       record (replaced now task old.number new slot) {
-        casts = waits_no_more task now.casts;
+        broadcasts = waits_no_more task now.broadcasts;
         dumpable = renewed now.dumpable owner.process (differs old.cred new);
       },
     ))
@@ -138,7 +138,7 @@ by_event : (script : Script) (s : State) (line : ℕ) (event : Event) → Leaves
 by_event script s line (Init task process user group ns) =
     let c = first_credential user group ns (root_of script ns) in
     outcome_has (Leaves s) s _ (refuses s)
-    (if_idle (Leaves s) (cast_in s process) _
+    (if_idle (Leaves s) (broadcast_in s process) _
     (λ idle. if_none (Leaves s) (task_of s task) _ _
     (λ new. if_fewer (Leaves s) (length s.tasks) TASKS _ _
     (in_slots (Leaves s) s table_full
@@ -219,18 +219,18 @@ by_event script s line (Begin task call) =
     outcome_has (Leaves s) s _ (refuses s)
     (if_some (Leaves s) (task_of s task) _ _
     (λ owner found. if_some (Leaves s) (numbered s.creds owner.current) _ _
-    (λ old at. if_idle (Leaves s) (cast_in s owner.process) _
-    (λ idle. if_none (Leaves s) (cast_of s line) _ _
+    (λ old at. if_idle (Leaves s) (broadcast_in s owner.process) _
+    (λ idle. if_none (Leaves s) (broadcast_of s line) _ _
     (λ unused. if_own (Leaves s) owner _
     (if_rule (Leaves s) (set_id old.cred call) _
     (λ new ruled.
     let others = others_of owner s.tasks in
-    let cast : Broadcast = record { number = line; process = owner.process; caller = task; call = call; waiting = others } in
+    let broadcast : Broadcast = record { number = line; process = owner.process; caller = task; call = call; waiting = others } in
     in_slots (Leaves s) s table_full
     (λ s slot. (
       Began (length s.creds) slot (length others),
       record (replaced s task old.number new slot) {
-        casts = with_cast s.casts cast;
+        broadcasts = with_broadcast s.broadcasts broadcast;
         dumpable = renewed s.dumpable owner.process (differs old.cred new);
       },
     ))
@@ -238,11 +238,11 @@ by_event script s line (Begin task call) =
     (λ left slot fewer free list. absurd list))))))))
 by_event script s line (Act number) =
     outcome_has (Leaves s) s _ (refuses s)
-    (if_some (Leaves s) (cast_of s number) _ _
-    (λ cast opened. if_some (Leaves s) (slice_get cast.waiting 0) _ _
+    (if_some (Leaves s) (broadcast_of s number) _ _
+    (λ broadcast opened. if_some (Leaves s) (slice_get broadcast.waiting 0) _ _
     (λ task first. if_some (Leaves s) (task_of s task) _ _
     (λ owner found. if_some (Leaves s) (numbered s.creds owner.current) _ _
-    (λ old at. follows_plainly s cast task owner old (set_id old.cred cast.call))))))
+    (λ old at. follows_plainly s broadcast task owner old (set_id old.cred broadcast.call))))))
 by_event script s line (OpenFile hold place asked fd) =
     outcome_has (Leaves s) s _ (refuses s)
     (if_some (Leaves s) (held_by s hold) _ _
@@ -308,7 +308,7 @@ by_event script s line (Raw task call) =
     outcome_has (Leaves s) s _ (refuses s)
     (if_some (Leaves s) (task_of s task) _ _
     (λ owner found. if_some (Leaves s) (numbered s.creds owner.current) _ _
-    (λ old at. if_idle (Leaves s) (cast_in s owner.process) _
+    (λ old at. if_idle (Leaves s) (broadcast_in s owner.process) _
     (λ idle. if_own (Leaves s) owner _
     (if_rule (Leaves s) (set_id old.cred call) _
     (λ new ruled.

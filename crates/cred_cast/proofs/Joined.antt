@@ -29,7 +29,7 @@ module _ (parent child : ℕ) where
   here c waits is = ap (λ s. if s then joins parent child c else c) is
 
   -- where the creator waits nowhere
-  pub joined_none : (casts : List Broadcast) → WaitsNowhere casts parent → joined parent child casts ≡ casts
+  pub joined_none : (broadcasts : List Broadcast) → WaitsNowhere broadcasts parent → joined parent child broadcasts ≡ broadcasts
   joined_none [] nowhere = refl
   joined_none (c ∷ cs) nowhere =
       ap (λ b. b ∷ joined parent child cs) (here c false (All-head (λ b. waits_in parent b ≡ false) c cs nowhere))
@@ -43,9 +43,9 @@ module _ (parent child : ℕ) where
       ] refl
 
   -- at the place of the broadcast that it waits in
-  pub joined_at : (casts : List Broadcast) (place : ℕ) (d : Broadcast) → AllPairs SharesNone casts → place < length casts
-      → waits_in parent (get_or casts place d) ≡ true
-      → set casts place (joins parent child (get_or casts place d)) ≡ joined parent child casts
+  pub joined_at : (broadcasts : List Broadcast) (place : ℕ) (d : Broadcast) → AllPairs SharesNone broadcasts → place < length broadcasts
+      → waits_in parent (get_or broadcasts place d) ≡ true
+      → set broadcasts place (joins parent child (get_or broadcasts place d)) ≡ joined parent child broadcasts
   joined_at [] place d apart within waits = absurd (omega arith)
   joined_at (c ∷ cs) zero d apart within waits =
       let others = AllPairs-head SharesNone c cs apart in
@@ -58,12 +58,12 @@ module _ (parent child : ℕ) where
       ∙ ap (λ b. b ∷ joined parent child cs) (sym (here c false (not_there c (get_or cs i d) (others i d inside) waits)))
 
   -- by the place that a search for the creator gives
-  pub joined_nowhere : (casts : List Broadcast) → position (waits_in parent) casts ≡ None → casts ≡ joined parent child casts
-  joined_nowhere casts none = sym (joined_none casts (none_placed (waits_in parent) casts none))
+  pub joined_nowhere : (broadcasts : List Broadcast) → position (waits_in parent) broadcasts ≡ None → broadcasts ≡ joined parent child broadcasts
+  joined_nowhere broadcasts none = sym (joined_none broadcasts (none_placed (waits_in parent) broadcasts none))
 
-  pub joined_place : (casts : List Broadcast) (place : ℕ) (cast now : Broadcast) → AllPairs SharesNone casts
-      → position (waits_in parent) casts ≡ Some place → cast ≡ get_or casts place cast → now ≡ joins parent child cast
-      → set casts place now ≡ joined parent child casts
-  joined_place casts place cast now apart is read joins_it =
-      let there = position-Some (waits_in parent) casts place cast is in
-      ap (set casts place) (joins_it ∙ ap (joins parent child) read) ∙ joined_at casts place cast apart there.0 there.1
+  pub joined_place : (broadcasts : List Broadcast) (place : ℕ) (broadcast now : Broadcast) → AllPairs SharesNone broadcasts
+      → position (waits_in parent) broadcasts ≡ Some place → broadcast ≡ get_or broadcasts place broadcast → now ≡ joins parent child broadcast
+      → set broadcasts place now ≡ joined parent child broadcasts
+  joined_place broadcasts place broadcast now apart is read joins_it =
+      let there = position-Some (waits_in parent) broadcasts place broadcast is in
+      ap (set broadcasts place) (joins_it ∙ ap (joins parent child) read) ∙ joined_at broadcasts place broadcast apart there.0 there.1

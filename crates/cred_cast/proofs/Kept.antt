@@ -16,19 +16,19 @@ use Rattle.cred_model.specs.Casts.{waits_in, is_open, without_waiter, waits_no_m
 use Rattle.cred_model.proofs.Lists.{All-kept, AllPairs-map, AllPairs-weaker, Differ, found, none_passes}
 use Rattle.cred_model.proofs.Rising.{Below, any-in_order, length-in_order, rising-in_order, rising_differ}
 use Rattle.cred_sound.proofs.Unique.{none_has}
-use Rattle.cred_cast.specs.Casts.{cast_under, cast_within, AreCasts}
+use Rattle.cred_cast.specs.Casts.{broadcast_under, broadcast_within, AreBroadcasts}
 
 abbrev number_of : Broadcast → ℕ
-number_of cast = cast.number
+number_of broadcast = broadcast.number
 
 abbrev process_of : Broadcast → ℕ
-process_of cast = cast.process
+process_of broadcast = broadcast.process
 
 abbrev IsRising : Broadcast → Type 0
-IsRising cast = AllPairs Below cast.waiting
+IsRising broadcast = AllPairs Below broadcast.waiting
 
 abbrev pub IsOpen : Broadcast → Type 0
-IsOpen cast = is_open cast ≡ true
+IsOpen broadcast = is_open broadcast ≡ true
 
 -- a change of the elements that keeps what holds of two
 AllPairs-kept : {X : Type 0} (R : X → X → Type 0) (f : X → X) (xs : List X) → ((x y : X) → R x y → R (f x) (f y)) → AllPairs R xs
@@ -36,25 +36,25 @@ AllPairs-kept : {X : Type 0} (R : X → X → Type 0) (f : X → X) (xs : List X
 AllPairs-kept R f xs keeps each = AllPairs-map R f xs (AllPairs-weaker R (λ x y. R (f x) (f y)) xs keeps each)
 
 -- of the broadcast that is found under a number
-pub open_under : (casts : List Broadcast) (number : ℕ) (cast : Broadcast) → cast_under casts number ≡ Some cast → AreCasts casts
-    → IsOpen cast
-open_under casts number cast is are = (found IsOpen (λ c. c.number == number) casts cast is are.some).0
+pub open_under : (broadcasts : List Broadcast) (number : ℕ) (broadcast : Broadcast) → broadcast_under broadcasts number ≡ Some broadcast → AreBroadcasts broadcasts
+    → IsOpen broadcast
+open_under broadcasts number broadcast is are = (found IsOpen (λ c. c.number == number) broadcasts broadcast is are.some).0
 
-pub rising_under : (casts : List Broadcast) (number : ℕ) (cast : Broadcast) → cast_under casts number ≡ Some cast → AreCasts casts
-    → IsRising cast
-rising_under casts number cast is are = (found IsRising (λ c. c.number == number) casts cast is are.rising).0
+pub rising_under : (broadcasts : List Broadcast) (number : ℕ) (broadcast : Broadcast) → broadcast_under broadcasts number ≡ Some broadcast → AreBroadcasts broadcasts
+    → IsRising broadcast
+rising_under broadcasts number broadcast is are = (found IsRising (λ c. c.number == number) broadcasts broadcast is are.rising).0
 
 -- ---- one is dropped
 
-pub are_dropped : (process : ℕ) (casts : List Broadcast) → AreCasts casts → AreCasts (dropped process casts)
-are_dropped process casts are =
+pub are_dropped : (process : ℕ) (broadcasts : List Broadcast) → AreBroadcasts broadcasts → AreBroadcasts (dropped process broadcasts)
+are_dropped process broadcasts are =
     let others : Broadcast → Bool = λ c. not (c.process == process) in
     record {
-      numbers = AllPairs-filter (Differ number_of) others casts are.numbers;
-      processes = AllPairs-filter (Differ process_of) others casts are.processes;
-      apart = AllPairs-filter SharesNone others casts are.apart;
-      rising = All-filter others IsRising casts are.rising;
-      some = All-filter others IsOpen casts are.some;
+      numbers = AllPairs-filter (Differ number_of) others broadcasts are.numbers;
+      processes = AllPairs-filter (Differ process_of) others broadcasts are.processes;
+      apart = AllPairs-filter SharesNone others broadcasts are.apart;
+      rising = All-filter others IsRising broadcasts are.rising;
+      some = All-filter others IsOpen broadcasts are.some;
     }
 
 -- ---- a thread waits no longer
@@ -72,20 +72,20 @@ was_waiting task n c is =
       | false ↦ λ none. let after = fewer_wait task n c none in cc
     ] refl
 
-pub are_left : (task : ℕ) (casts : List Broadcast) → AreCasts casts → AreCasts (waits_no_more task casts)
-are_left task casts are =
-    let rest = map (without_waiter task) casts in
+pub are_left : (task : ℕ) (broadcasts : List Broadcast) → AreBroadcasts broadcasts → AreBroadcasts (waits_no_more task broadcasts)
+are_left task broadcasts are =
+    let rest = map (without_waiter task) broadcasts in
     let goes_on : ℕ → Bool = λ m. not (m == task) in
     record {
       numbers = AllPairs-filter (Differ number_of) is_open rest
-          (AllPairs-kept (Differ number_of) (without_waiter task) casts (λ a b differ. differ) are.numbers);
+          (AllPairs-kept (Differ number_of) (without_waiter task) broadcasts (λ a b differ. differ) are.numbers);
       processes = AllPairs-filter (Differ process_of) is_open rest
-          (AllPairs-kept (Differ process_of) (without_waiter task) casts (λ a b differ. differ) are.processes);
+          (AllPairs-kept (Differ process_of) (without_waiter task) broadcasts (λ a b differ. differ) are.processes);
       apart = AllPairs-filter SharesNone is_open rest
-          (AllPairs-kept SharesNone (without_waiter task) casts
+          (AllPairs-kept SharesNone (without_waiter task) broadcasts
           (λ a b apart n waits. fewer_wait task n b (apart n (was_waiting task n a waits))) are.apart);
       rising = All-filter is_open IsRising rest
-          (All-kept IsRising (without_waiter task) casts (λ c up. AllPairs-filter Below goes_on c.waiting up) are.rising);
+          (All-kept IsRising (without_waiter task) broadcasts (λ c up. AllPairs-filter Below goes_on c.waiting up) are.rising);
       some = filter_passes is_open rest;
     }
 
@@ -100,26 +100,26 @@ differs b n m waits free =
       | false ↦ λ other. refl
     ] refl
 
-pub are_begun : (casts : List Broadcast) (cast : Broadcast) → cast_under casts cast.number ≡ None
-    → cast_within casts cast.process ≡ None → All (WaitsNowhere casts) cast.waiting → IsRising cast → IsOpen cast
-    → AreCasts casts → AreCasts (casts ++ cast ∷ [])
-are_begun casts cast new one only_here up some are = record {
-  numbers = all_pairs_push (Differ number_of) casts cast are.numbers (none_has number_of casts cast.number new);
-  processes = all_pairs_push (Differ process_of) casts cast are.processes (none_has process_of casts cast.process one);
-  apart = all_pairs_push SharesNone casts cast are.apart (λ k d lt n waits.
+pub are_begun : (broadcasts : List Broadcast) (broadcast : Broadcast) → broadcast_under broadcasts broadcast.number ≡ None
+    → broadcast_within broadcasts broadcast.process ≡ None → All (WaitsNowhere broadcasts) broadcast.waiting → IsRising broadcast → IsOpen broadcast
+    → AreBroadcasts broadcasts → AreBroadcasts (broadcasts ++ broadcast ∷ [])
+are_begun broadcasts broadcast new one only_here up some are = record {
+  numbers = all_pairs_push (Differ number_of) broadcasts broadcast are.numbers (none_has number_of broadcasts broadcast.number new);
+  processes = all_pairs_push (Differ process_of) broadcasts broadcast are.processes (none_has process_of broadcasts broadcast.process one);
+  apart = all_pairs_push SharesNone broadcasts broadcast are.apart (λ k d lt n waits.
       let same : ℕ → Bool = λ m. m == n in
-      list_any_none same cast.waiting
-      (All-weaker (WaitsNowhere casts) (λ m. same m ≡ false)
-      (λ m nowhere. differs (get_or casts k d) n m waits (nowhere k d lt)) cast.waiting only_here));
-  rising = All-push IsRising casts cast are.rising up;
-  some = All-push IsOpen casts cast are.some some;
+      list_any_none same broadcast.waiting
+      (All-weaker (WaitsNowhere broadcasts) (λ m. same m ≡ false)
+      (λ m nowhere. differs (get_or broadcasts k d) n m waits (nowhere k d lt)) broadcast.waiting only_here));
+  rising = All-push IsRising broadcasts broadcast are.rising up;
+  some = All-push IsOpen broadcasts broadcast are.some some;
 }
 
 -- ---- a new thread waits
 
 module _ (parent child : ℕ) where
   abbrev pub joins : Broadcast → Broadcast
-  joins cast = record cast { waiting = in_order (cast.waiting ++ child ∷ []) }
+  joins broadcast = record broadcast { waiting = in_order (broadcast.waiting ++ child ∷ []) }
 
   joins_waits : (n : ℕ) (c : Broadcast) → waits_in n (joins c) ≡ (waits_in n c || ((child == n) || false))
   joins_waits n c =
@@ -174,22 +174,22 @@ module _ (parent child : ℕ) where
       ap (λ n. not (n == 0)) (length-in_order (c.waiting ++ child ∷ []) ∙ length_push c.waiting child)
       ∙ (grind (arith, nat_tests))
 
-  pub are_joined : (casts : List Broadcast) → WaitsNowhere casts child → AreCasts casts → AreCasts (joined parent child casts)
-  are_joined casts nowhere are =
+  pub are_joined : (broadcasts : List Broadcast) → WaitsNowhere broadcasts child → AreBroadcasts broadcasts → AreBroadcasts (joined parent child broadcasts)
+  are_joined broadcasts nowhere are =
       let g = with_child parent child in
       record {
-        numbers = AllPairs-kept (Differ number_of) g casts
+        numbers = AllPairs-kept (Differ number_of) g broadcasts
             (λ a b differ is. differ (sym (same_number a) ∙ is ∙ same_number b)) are.numbers;
-        processes = AllPairs-kept (Differ process_of) g casts
+        processes = AllPairs-kept (Differ process_of) g broadcasts
             (λ a b differ is. differ (sym (same_process a) ∙ is ∙ same_process b)) are.processes;
-        apart = AllPairs-map SharesNone g casts (λ i j d lt within.
-            shares_joined (get_or casts i d) (get_or casts j d) (are.apart i j d lt within)
+        apart = AllPairs-map SharesNone g broadcasts (λ i j d lt within.
+            shares_joined (get_or broadcasts i d) (get_or broadcasts j d) (are.apart i j d lt within)
             (nowhere i d (omega arith)) (nowhere j d within));
-        rising = All-map IsRising g casts (λ k d lt.
-            let c = get_or casts k d in
+        rising = All-map IsRising g broadcasts (λ k d lt.
+            let c = get_or broadcasts k d in
             cond_both (waits_in parent c) (joins c) c IsRising (λ is. joins_rises c (nowhere k d lt) (are.rising k d lt))
             (λ other. are.rising k d lt));
-        some = All-map IsOpen g casts (λ k d lt.
-            let c = get_or casts k d in
+        some = All-map IsOpen g broadcasts (λ k d lt.
+            let c = get_or broadcasts k d in
             cond_both (waits_in parent c) (joins c) c IsOpen (λ is. joins_open c) (λ other. are.some k d lt));
       }

@@ -12,21 +12,21 @@ use Rattle.cred_model.specs.State.{Broadcast}
 use Rattle.cred_model.specs.Casts.{waits_in, is_open, without_waiter, waits_no_more, WaitsNowhere, SharesNone}
 use Rattle.cred_model.proofs.Lists.{none_found}
 use Rattle.cred_model.proofs.Rising.{AllPairs-head, AllPairs-tail, Below}
-use Rattle.cred_cast.specs.Casts.{AreCasts}
+use Rattle.cred_cast.specs.Casts.{AreBroadcasts}
 use Rattle.cred_cast.proofs.Joined.{none_placed}
 use Rattle.cred_cast.proofs.Kept.{IsOpen}
 use Rattle.cred_cast.proofs.Falling.{one_fewer, stays}
 
 -- those that are all open
-all_open : (casts : List Broadcast) → All IsOpen casts → filter is_open casts ≡ casts
+all_open : (broadcasts : List Broadcast) → All IsOpen broadcasts → filter is_open broadcasts ≡ broadcasts
 all_open [] are = refl
 all_open (c ∷ cs) are =
     ap (λ b. cond b (c ∷ filter is_open cs) (filter is_open cs)) (All-head IsOpen c cs are)
     ∙ ap (λ bs. c ∷ bs) (all_open cs (All-tail IsOpen c cs are))
 
 -- one among them that was changed
-still_open : (casts : List Broadcast) (place : ℕ) (now : Broadcast) → All IsOpen casts → IsOpen now → place < length casts
-    → filter is_open (set casts place now) ≡ set casts place now
+still_open : (broadcasts : List Broadcast) (place : ℕ) (now : Broadcast) → All IsOpen broadcasts → IsOpen now → place < length broadcasts
+    → filter is_open (set broadcasts place now) ≡ set broadcasts place now
 still_open [] place now are some within = absurd (omega arith)
 still_open (c ∷ cs) zero now are some within =
     ap (λ b. cond b (now ∷ filter is_open cs) (filter is_open cs)) some
@@ -35,8 +35,8 @@ still_open (c ∷ cs) (suc i) now are some within =
     ap (λ b. cond b (c ∷ filter is_open (set cs i now)) (filter is_open (set cs i now))) (All-head IsOpen c cs are)
     ∙ ap (λ bs. c ∷ bs) (still_open cs i now (All-tail IsOpen c cs are) some (omega arith))
 
-closed_there : (casts : List Broadcast) (place : ℕ) (now : Broadcast) → All IsOpen casts → is_open now ≡ false → place < length casts
-    → filter is_open (set casts place now) ≡ remove (set casts place now) place
+closed_there : (broadcasts : List Broadcast) (place : ℕ) (now : Broadcast) → All IsOpen broadcasts → is_open now ≡ false → place < length broadcasts
+    → filter is_open (set broadcasts place now) ≡ remove (set broadcasts place now) place
 closed_there [] place now are none within = absurd (omega arith)
 closed_there (c ∷ cs) zero now are none within =
     ap (λ b. cond b (now ∷ filter is_open cs) (filter is_open cs)) none
@@ -49,7 +49,7 @@ module _ (task : ℕ) where
   same_without : (c : Broadcast) → waits_in task c ≡ false → without_waiter task c ≡ c
   same_without c none = ap (λ (ws : List ℕ). record c { waiting = ws }) (stays task c.waiting none)
 
-  none_left : (casts : List Broadcast) → WaitsNowhere casts task → map (without_waiter task) casts ≡ casts
+  none_left : (broadcasts : List Broadcast) → WaitsNowhere broadcasts task → map (without_waiter task) broadcasts ≡ broadcasts
   none_left [] nowhere = refl
   none_left (c ∷ cs) nowhere =
       ap (λ b. b ∷ map (without_waiter task) cs) (same_without c (All-head (λ b. waits_in task b ≡ false) c cs nowhere))
@@ -63,9 +63,9 @@ module _ (task : ℕ) where
       ] refl
 
   -- at the place of the broadcast that it waits in
-  left_at : (casts : List Broadcast) (place : ℕ) (d : Broadcast) → AllPairs SharesNone casts → place < length casts
-      → waits_in task (get_or casts place d) ≡ true
-      → set casts place (without_waiter task (get_or casts place d)) ≡ map (without_waiter task) casts
+  left_at : (broadcasts : List Broadcast) (place : ℕ) (d : Broadcast) → AllPairs SharesNone broadcasts → place < length broadcasts
+      → waits_in task (get_or broadcasts place d) ≡ true
+      → set broadcasts place (without_waiter task (get_or broadcasts place d)) ≡ map (without_waiter task) broadcasts
   left_at [] place d apart within waits = absurd (omega arith)
   left_at (c ∷ cs) zero d apart within waits =
       let others = AllPairs-head SharesNone c cs apart in
@@ -98,45 +98,45 @@ pub none_there : {X : Type 0} (p : X → Bool) (xs : List X) → position p xs �
 none_there p xs is = none_found p xs (none_placed p xs is)
 
 -- the broadcast at this place
-module _ (casts : List Broadcast) (task place : ℕ) (cast : Broadcast) (are : AreCasts casts)
-    (waits : IsSomeAnd (slice_get casts place) (λ b. waits_in task b ≡ true)) (read : cast ≡ get_or casts place cast) where
-  pub within : place < length casts
-  within = some_within (λ b. waits_in task b ≡ true) casts place waits
+module _ (broadcasts : List Broadcast) (task place : ℕ) (broadcast : Broadcast) (are : AreBroadcasts broadcasts)
+    (waits : IsSomeAnd (slice_get broadcasts place) (λ b. waits_in task b ≡ true)) (read : broadcast ≡ get_or broadcasts place broadcast) where
+  pub within : place < length broadcasts
+  within = some_within (λ b. waits_in task b ≡ true) broadcasts place waits
 
-  is_cast : slice_get casts place ≡ Some cast
-  is_cast = slice_get-get_or casts place cast within ∙ ap (λ (c : Broadcast). Some c) (sym read)
+  is_broadcast : slice_get broadcasts place ≡ Some broadcast
+  is_broadcast = slice_get-get_or broadcasts place broadcast within ∙ ap (λ (c : Broadcast). Some c) (sym read)
 
-  here : waits_in task cast ≡ true
-  here = subst (λ o. IsSomeAnd o (λ b. waits_in task b ≡ true)) is_cast waits
+  here : waits_in task broadcast ≡ true
+  here = subst (λ o. IsSomeAnd o (λ b. waits_in task b ≡ true)) is_broadcast waits
 
-  up : AllPairs Below cast.waiting
-  up = subst (λ (c : Broadcast). AllPairs Below c.waiting) (sym read) (are.rising place cast within)
+  up : AllPairs Below broadcast.waiting
+  up = subst (λ (c : Broadcast). AllPairs Below c.waiting) (sym read) (are.rising place broadcast within)
 
-  module _ (left : ℕ) (many : left + 1 ≡ length cast.waiting) where
-    pub left_beside : IfSome (slice_get casts place) (λ b. left + 1 ≡ length b.waiting)
-    left_beside = subst (λ o. IfSome o (λ b. left + 1 ≡ length b.waiting)) (sym is_cast) many
+  module _ (left : ℕ) (many : left + 1 ≡ length broadcast.waiting) where
+    pub left_beside : IfSome (slice_get broadcasts place) (λ b. left + 1 ≡ length b.waiting)
+    left_beside = subst (λ o. IfSome o (λ b. left + 1 ≡ length b.waiting)) (sym is_broadcast) many
 
-    module _ (now : Broadcast) (leaves : now ≡ without_waiter task cast) where
-      gone_there : set casts place now ≡ map (without_waiter task) casts
+    module _ (now : Broadcast) (leaves : now ≡ without_waiter task broadcast) where
+      gone_there : set broadcasts place now ≡ map (without_waiter task) broadcasts
       gone_there =
-          ap (set casts place) (leaves ∙ ap (without_waiter task) read)
-          ∙ left_at task casts place cast are.apart within (sym (ap (waits_in task) read) ∙ here)
+          ap (set broadcasts place) (leaves ∙ ap (without_waiter task) read)
+          ∙ left_at task broadcasts place broadcast are.apart within (sym (ap (waits_in task) read) ∙ here)
 
       as_many : length now.waiting ≡ left
       as_many =
-          let fewer = one_fewer task cast.waiting up here in
+          let fewer = one_fewer task broadcast.waiting up here in
           let long = ap (λ (c : Broadcast). length c.waiting) leaves in
           omega (arith, fewer, long, many)
 
       -- where others still wait there
-      pub left_open : (left ≡ 0 → ⊥) → set casts place now ≡ waits_no_more task casts
+      pub left_open : (left ≡ 0 → ⊥) → set broadcasts place now ≡ waits_no_more task broadcasts
       left_open some =
           let same = as_many in
           let open_now : is_open now ≡ true = grind (arith, nat_tests) in
-          sym (still_open casts place now are.some open_now within) ∙ ap (filter is_open) gone_there
+          sym (still_open broadcasts place now are.some open_now within) ∙ ap (filter is_open) gone_there
 
       -- where nobody does
-      pub left_closed : left ≡ 0 → remove (set casts place now) place ≡ waits_no_more task casts
+      pub left_closed : left ≡ 0 → remove (set broadcasts place now) place ≡ waits_no_more task broadcasts
       left_closed none =
           let closed_now : is_open now ≡ false = ap (λ n. not (n == 0)) (as_many ∙ none) in
-          sym (closed_there casts place now are.some closed_now within) ∙ ap (filter is_open) gone_there
+          sym (closed_there broadcasts place now are.some closed_now within) ∙ ap (filter is_open) gone_there

@@ -6,22 +6,22 @@ use Rattle.cred_model.specs.State.{Broadcast}
 use Rattle.cred_model.specs.Casts.{is_open, SharesNone}
 
 -- the broadcast of this number
-abbrev pub cast_under : List Broadcast → ℕ → Option Broadcast
-cast_under casts number = find (λ b. b.number == number) casts
+abbrev pub broadcast_under : List Broadcast → ℕ → Option Broadcast
+broadcast_under broadcasts number = find (λ b. b.number == number) broadcasts
 
 -- the broadcast that is open in a process
-abbrev pub cast_within : List Broadcast → ℕ → Option Broadcast
-cast_within casts process = find (λ b. b.process == process) casts
+abbrev pub broadcast_within : List Broadcast → ℕ → Option Broadcast
+broadcast_within broadcasts process = find (λ b. b.process == process) broadcasts
 
 -- the broadcast that a task has begun
-abbrev pub cast_by : List Broadcast → ℕ → Option Broadcast
-cast_by casts task = find (λ b. b.caller == task) casts
+abbrev pub broadcast_by : List Broadcast → ℕ → Option Broadcast
+broadcast_by broadcasts task = find (λ b. b.caller == task) broadcasts
 
 -- No two have one number, no two are open in one process, and no task waits in two. In each
 -- somebody waits: those tasks in rising order, none of them twice.
-pub record AreCasts (casts : List Broadcast) : Type 0 where
-  pub numbers : AllPairs (λ a b. a.number ≢ b.number) casts
-  pub processes : AllPairs (λ a b. a.process ≢ b.process) casts
-  pub apart : AllPairs SharesNone casts
-  pub rising : All (λ b. AllPairs (λ m n. m < n) b.waiting) casts
-  pub some : All (λ b. is_open b ≡ true) casts
+pub record AreBroadcasts (broadcasts : List Broadcast) : Type 0 where
+  pub numbers : AllPairs (λ a b. a.number ≢ b.number) broadcasts
+  pub processes : AllPairs (λ a b. a.process ≢ b.process) broadcasts
+  pub apart : AllPairs SharesNone broadcasts
+  pub rising : All (λ b. AllPairs (λ m n. m < n) b.waiting) broadcasts
+  pub some : All (λ b. is_open b ≡ true) broadcasts

@@ -4,11 +4,12 @@ ghost use Rattle.std.specs.Prelude.{slice_get, vec_len, true, None, IfSome, OnOk
 ghost use Rattle.std.specs.List.{AllPairs, position, remove};
 ghost use Rattle.std.specs.Option.{IsSomeAnd, option_map};
 ghost use Rattle.cred_ids.specs.Ordered.{in_order};
-ghost use Rattle.cred_model.specs.Casts.{waits_in, with_cast, waits_no_more, joined, dropped};
+ghost use Rattle.cred_model.specs.Casts.{waits_in, with_broadcast, waits_no_more, joined, dropped};
 ghost use Rattle.cred_model.specs.Casts.{WaitsNowhere};
-ghost use Rattle.cred_cast.specs.Casts.{cast_under, cast_within, cast_by, AreCasts};
+ghost use Rattle.cred_cast.specs.Casts.{broadcast_under, broadcast_within, broadcast_by};
+ghost use Rattle.cred_cast.specs.Casts.{AreBroadcasts};
 
-use crate::one_cast::{Cast, falling};
+use crate::one_broadcast::{Cast, falling};
 use cred_ids::NoMemory;
 use cred_record::IdCall;
 use std::alloc::Global;
@@ -19,20 +20,20 @@ use std::marker::Model;
 /// them. After `NoMemory` the table is as it was.
 #[derive(Drop, Debug)]
 pub struct Casts {
-    casts: Vec<Cast>,
+    broadcasts: Vec<Cast>,
     alloc: Global,
 }
 
 impl Model for Casts {
     ghost use Rattle.std.specs.Prelude.{List};
     ghost use Rattle.cred_model.specs.State.{Broadcast};
-    ghost use Rattle.cred_cast.specs.Casts.{AreCasts};
+    ghost use Rattle.cred_cast.specs.Casts.{AreBroadcasts};
 
     ghost Value = { List Broadcast };
 
-    ghost view = { λ c. c.casts.items };
+    ghost view = { λ c. c.broadcasts.items };
 
-    ghost invariant = { λ c. AreCasts c.casts.items };
+    ghost invariant = { λ c. AreBroadcasts c.broadcasts.items };
 }
 
 impl Casts {
@@ -41,7 +42,7 @@ impl Casts {
         ensures { result ≡ [] }
     {
         Casts {
-            casts: Vec::new(alloc),
+            broadcasts: Vec::new(alloc),
             alloc,
         }
     }
@@ -61,11 +62,11 @@ impl Casts {
         call: &IdCall,
         waiting: &[u32],
     ) -> Result<(), NoMemory>
-        requires new { cast_under self.old number ≡ None }
-        requires one { cast_within self.old process ≡ None }
+        requires new { broadcast_under self.old number ≡ None }
+        requires one { broadcast_within self.old process ≡ None }
         requires once { AllPairs (λ a b. a ≢ b) waiting.now }
         requires only_here { All (WaitsNowhere self.old) waiting.now }
-        ensures ok { OnOk result (self.new ≡ with_cast self.old (record {
+        ensures ok { OnOk result (self.new ≡ with_broadcast self.old (record {
           number = number;
           process = process;
           caller = caller;
@@ -79,7 +80,7 @@ impl Casts {
         }
         let waiting = falling(self.alloc, waiting)?;
         let call = call.copy()?;
-        self.casts.push(Cast {
+        self.broadcasts.push(Cast {
             number,
             process,
             caller,
@@ -94,7 +95,9 @@ impl Casts {
     pub fn place(&self, number: u32) -> Option<usize>
         ensures { result ≡ position (λ b. b.number == number) self.now }
     {
-        self.casts.iter().position(|cast| cast.number == number)
+        self.broadcasts
+            .iter()
+            .position(|broadcast| broadcast.number == number)
     }
 
     /// The least task that waits in the broadcast at a place: it makes its step next.
@@ -103,7 +106,7 @@ impl Casts {
         ensures { IfSome (slice_get self.now place) (λ b. slice_get b.waiting 0 ≡ Some result) }
     {
         // It is there: somebody waits in each.
-        self.casts[place].least().unwrap()
+        self.broadcasts[place].least().unwrap()
     }
 
     /// The call that is made in the broadcast at a place.
@@ -111,7 +114,7 @@ impl Casts {
         requires { place < length self.now }
         ensures { IfSome (slice_get self.now place) (λ b. result.now ≡ b.call) }
     {
-        &self.casts[place].call
+        &self.broadcasts[place].call
     }
 
     /// A task has made its step in the broadcast at a place: it waits no more. Returns how many
@@ -120,13 +123,13 @@ impl Casts {
     pub fn act_at(&mut self, place: usize, task: u32) -> u32
         requires { IsSomeAnd (slice_get self.old place) (λ b. waits_in task b ≡ true) }
         ensures left { IfSome (slice_get self.old place) (λ b. result + 1 ≡ length b.waiting) }
-        ensures casts { self.new ≡ waits_no_more task self.old }
+        ensures broadcasts { self.new ≡ waits_no_more task self.old }
     {
-        let cast = &mut self.casts[place];
-        let left = cast.others();
-        cast.step(task);
+        let broadcast = &mut self.broadcasts[place];
+        let left = broadcast.others();
+        broadcast.step(task);
         if left == 0 {
-            close(&mut self.casts, place);
+            close(&mut self.broadcasts, place);
         }
         left
     }
@@ -141,10 +144,14 @@ impl Casts {
         ensures ok { OnOk result (self.new ≡ joined parent child self.old) }
         ensures err { OnErr result (self.new ≡ self.old) }
     {
-        let Some(place) = self.casts.iter().position(|cast| cast.waits(parent)) else {
+        let Some(place) = self
+            .broadcasts
+            .iter()
+            .position(|broadcast| broadcast.waits(parent))
+        else {
             return Ok(());
         };
-        self.casts[place].join(child)
+        self.broadcasts[place].join(child)
     }
 
     /// A task has ended: it waits no more. A broadcast that nobody waits in any more is completed
@@ -152,7 +159,7 @@ impl Casts {
     pub fn gone(&mut self, task: u32)
         ensures { self.new ≡ waits_no_more task self.old }
     {
-        leave(&mut self.casts, task);
+        leave(&mut self.broadcasts, task);
     }
 
     /// The broadcast of a process is dropped, as when one of its threads calls execve(2). Where
@@ -160,57 +167,66 @@ impl Casts {
     pub fn dropped(&mut self, process: u32)
         ensures { self.new ≡ dropped process self.old }
     {
-        self.casts.retain(|cast| cast.process != process);
+        self.broadcasts
+            .retain(|broadcast| broadcast.process != process);
     }
 
     /// The number of the broadcast that is open in a process. `None` where none is.
     pub fn open_in(&self, process: u32) -> Option<u32>
-        ensures number { result ≡ option_map (λ b. b.number) (cast_within self.now process) }
-        ensures casts { AreCasts self.now }
+        ensures number { result ≡ option_map (λ b. b.number) (broadcast_within self.now process) }
+        ensures broadcasts { AreBroadcasts self.now }
     {
-        let found = self.casts.iter().find(|cast| cast.process == process);
+        let found = self
+            .broadcasts
+            .iter()
+            .find(|broadcast| broadcast.process == process);
         Some(found?.number)
     }
 
     /// The number of the open broadcast that a task has begun. `None` where it has begun none.
     pub fn begun_by(&self, task: u32) -> Option<u32>
-        ensures { result ≡ option_map (λ b. b.number) (cast_by self.now task) }
+        ensures { result ≡ option_map (λ b. b.number) (broadcast_by self.now task) }
     {
-        let found = self.casts.iter().find(|cast| cast.caller == task);
+        let found = self
+            .broadcasts
+            .iter()
+            .find(|broadcast| broadcast.caller == task);
         Some(found?.number)
     }
 
     /// The task that made the call of a broadcast first. `None` where none of that number is open.
     pub fn caller_of(&self, number: u32) -> Option<u32>
-        ensures { result ≡ option_map (λ b. b.caller) (cast_under self.now number) }
+        ensures { result ≡ option_map (λ b. b.caller) (broadcast_under self.now number) }
     {
-        Some(self.cast(number)?.caller)
+        Some(self.broadcast(number)?.caller)
     }
 
     /// The broadcast of a number. `None` where none of that number is open.
-    fn cast(&self, number: u32) -> Option<&Cast>
-        ensures found { option_map (λ c. c.now) result ≡ cast_under self.now number }
-        ensures casts { AreCasts self.now }
+    fn broadcast(&self, number: u32) -> Option<&Cast>
+        ensures found { option_map (λ c. c.now) result ≡ broadcast_under self.now number }
+        ensures broadcasts { AreBroadcasts self.now }
     {
-        self.casts.iter().find(|cast| cast.number == number)
+        self.broadcasts
+            .iter()
+            .find(|broadcast| broadcast.number == number)
     }
 }
 
 /// The broadcast at a place is closed. It stands by itself, since most steps close none.
 #[inline(never)]
-fn close(casts: &mut Vec<Cast>, place: usize)
-    requires { place < vec_len casts.old }
-    ensures { casts.new.items ≡ remove casts.old.items place }
+fn close(broadcasts: &mut Vec<Cast>, place: usize)
+    requires { place < vec_len broadcasts.old }
+    ensures { broadcasts.new.items ≡ remove broadcasts.old.items place }
 {
-    casts.remove(place);
+    broadcasts.remove(place);
 }
 
 /// A task waits no more, and the broadcasts that nobody waits in any more are closed.
-fn leave(casts: &mut Vec<Cast>, task: u32)
-    ensures { casts.new.items ≡ waits_no_more task casts.old.items }
+fn leave(broadcasts: &mut Vec<Cast>, task: u32)
+    ensures { broadcasts.new.items ≡ waits_no_more task broadcasts.old.items }
 {
-    for cast in casts.iter_mut() {
-        cast.leave(task);
+    for broadcast in broadcasts.iter_mut() {
+        broadcast.leave(task);
     }
-    casts.retain(|cast| cast.is_open());
+    broadcasts.retain(|broadcast| broadcast.is_open());
 }

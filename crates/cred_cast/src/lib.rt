@@ -3,6 +3,6 @@
 #![tactic(auto)]
 
 pub mod casts;
-mod one_cast;
+mod one_broadcast;
 
 pub use casts::Casts;

@@ -115,8 +115,8 @@ one_more script journal line course event number answer before after is going du
     let falls = subst (λ (e : Entry). left_at script (Some (model.after line.content course e.answer)) + waiting (replay script (journal ++ e ∷ []))
     < left_at script (Some course) + waiting (replay script journal)) same fell in
     let like : IsLike after (replay script (journal ++ entry ∷ [])) = subst (IsLike after) (sym (replay-push script journal entry)) made.leads in
-    let wait : waiting before ≡ waiting (replay script journal) = ap waiting_in is.like.casts in
-    let waits : waiting after ≡ waiting (replay script (journal ++ entry ∷ [])) = ap waiting_in like.casts in
+    let wait : waiting before ≡ waiting (replay script journal) = ap waiting_in is.like.broadcasts in
+    let waits : waiting after ≡ waiting (replay script (journal ++ entry ∷ [])) = ap waiting_in like.broadcasts in
     record {
       on = record {
         order = IsInOrder-push script journal entry is.order (next_here script journal line course event is.at due ∙ ap Some same);

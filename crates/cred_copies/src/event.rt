@@ -133,7 +133,7 @@ fn copy_plain(e: &Event) -> Event
         | Event::Chmod { .. }
         | Event::SetAttr { .. }
         | Event::Stat { .. } => unreachable!(),
-        Event::Act { cast } => Event::Act { cast },
+        Event::Act { broadcast } => Event::Act { broadcast },
         Event::OpenFile {
             hold,
             file,

@@ -6,7 +6,7 @@ use Rattle.std.proofs.lemmas.List.{length_push}
 use Rattle.std.proofs.lemmas.List.Sums.{count_by-le-length, length-filter, sum_by-append, sum_by-cons}
 use Rattle.cred_ids.specs.Ordered.{in_order}
 use Rattle.cred_model.specs.State.{Broadcast}
-use Rattle.cred_model.specs.Casts.{is_open, joined, waits_in, waits_no_more, with_cast, with_child, without_waiter, SharesNone}
+use Rattle.cred_model.specs.Casts.{is_open, joined, waits_in, waits_no_more, with_broadcast, with_child, without_waiter, SharesNone}
 use Rattle.cred_model.proofs.Rising.{AllPairs-head, AllPairs-tail, length-in_order}
 use Rattle.cred_cast.proofs.Joined.{joined_none}
 use Rattle.cred_course.specs.Waiting.{waiting_in}
@@ -16,7 +16,7 @@ waits b = length b.waiting
 
 -- ---- broadcasts that are closed
 
-pub waiting-filter : (stays : Broadcast → Bool) (casts : List Broadcast) → waiting_in (filter stays casts) ≤ waiting_in casts
+pub waiting-filter : (stays : Broadcast → Bool) (broadcasts : List Broadcast) → waiting_in (filter stays broadcasts) ≤ waiting_in broadcasts
 waiting-filter stays [] = omega arith
 waiting-filter stays (b ∷ bs) = by (stays b) (waiting-filter stays bs)
   where
@@ -37,7 +37,7 @@ fewer-without task b =
     let test : ℕ → Bool = λ n. not (n == task) in
     omega (arith, length-filter test b.waiting, count_by-le-length test b.waiting)
 
-waiting-without : (task : ℕ) (casts : List Broadcast) → waiting_in (map (without_waiter task) casts) ≤ waiting_in casts
+waiting-without : (task : ℕ) (broadcasts : List Broadcast) → waiting_in (map (without_waiter task) broadcasts) ≤ waiting_in broadcasts
 waiting-without task [] = omega arith
 waiting-without task (b ∷ bs) =
     let rest = waiting-without task bs in
@@ -45,8 +45,8 @@ waiting-without task (b ∷ bs) =
     let before = sum_by-cons waits b bs in
     omega (arith, rest, now, before, fewer-without task b)
 
-pub waiting-left : (task : ℕ) (casts : List Broadcast) → waiting_in (waits_no_more task casts) ≤ waiting_in casts
-waiting-left task casts = omega (arith, waiting-filter is_open (map (without_waiter task) casts), waiting-without task casts)
+pub waiting-left : (task : ℕ) (broadcasts : List Broadcast) → waiting_in (waits_no_more task broadcasts) ≤ waiting_in broadcasts
+waiting-left task broadcasts = omega (arith, waiting-filter is_open (map (without_waiter task) broadcasts), waiting-without task broadcasts)
 
 -- it was there
 one_less : (task : ℕ) (ns : List ℕ) → list_any (λ n. n == task) ns ≡ true → length (filter (λ n. not (n == task)) ns) < length ns
@@ -61,16 +61,16 @@ one_less task (n ∷ ns) there = by (n == task) there (one_less task ns)
         omega (arith, length-filter test ns, count_by-le-length test ns)
     by false there rest = let less = rest there in omega (arith, less)
 
-less-without : (task number : ℕ) (casts : List Broadcast) (cast : Broadcast) → find (λ b. b.number == number) casts ≡ Some cast → waits_in task cast ≡ true
-    → waiting_in (map (without_waiter task) casts) < waiting_in casts
-less-without task number [] cast found there = cc
-less-without task number (b ∷ bs) cast found there = by (b.number == number) found (λ later. less-without task number bs cast later there)
+less-without : (task number : ℕ) (broadcasts : List Broadcast) (broadcast : Broadcast) → find (λ b. b.number == number) broadcasts ≡ Some broadcast → waits_in task broadcast ≡ true
+    → waiting_in (map (without_waiter task) broadcasts) < waiting_in broadcasts
+less-without task number [] broadcast found there = cc
+less-without task number (b ∷ bs) broadcast found there = by (b.number == number) found (λ later. less-without task number bs broadcast later there)
   where
-    by : (test : Bool) → cond test (Some b) (find (λ c. c.number == number) bs) ≡ Some cast
-        → (find (λ c. c.number == number) bs ≡ Some cast → waiting_in (map (without_waiter task) bs) < waiting_in bs)
+    by : (test : Bool) → cond test (Some b) (find (λ c. c.number == number) bs) ≡ Some broadcast
+        → (find (λ c. c.number == number) bs ≡ Some broadcast → waiting_in (map (without_waiter task) bs) < waiting_in bs)
         → waiting_in (map (without_waiter task) (b ∷ bs)) < waiting_in (b ∷ bs)
     by true found rest =
-        let same : b ≡ cast = cc in
+        let same : b ≡ broadcast = cc in
         let less = one_less task b.waiting (ap (waits_in task) same ∙ there) in
         let now = sum_by-cons waits (without_waiter task b) (map (without_waiter task) bs) in
         let before = sum_by-cons waits b bs in
@@ -82,22 +82,22 @@ less-without task number (b ∷ bs) cast found there = by (b.number == number) f
         omega (arith, less, now, before, fewer-without task b)
 
 -- A task that waits makes its step: one waits less at least.
-pub waiting-acted : (task number : ℕ) (casts : List Broadcast) (cast : Broadcast) → find (λ b. b.number == number) casts ≡ Some cast → waits_in task cast ≡ true
-    → waiting_in (waits_no_more task casts) < waiting_in casts
-waiting-acted task number casts cast found there =
-    omega (arith, waiting-filter is_open (map (without_waiter task) casts), less-without task number casts cast found there)
+pub waiting-acted : (task number : ℕ) (broadcasts : List Broadcast) (broadcast : Broadcast) → find (λ b. b.number == number) broadcasts ≡ Some broadcast → waits_in task broadcast ≡ true
+    → waiting_in (waits_no_more task broadcasts) < waiting_in broadcasts
+waiting-acted task number broadcasts broadcast found there =
+    omega (arith, waiting-filter is_open (map (without_waiter task) broadcasts), less-without task number broadcasts broadcast found there)
 
 -- ---- tasks that begin to wait
 
-pub waiting-begun : (casts : List Broadcast) (cast : Broadcast) → waiting_in (with_cast casts cast) ≤ waiting_in casts + length cast.waiting
-waiting-begun casts cast =
-    let all = sum_by-append waits casts (filter is_open (cast ∷ [])) in
-    let most = waiting-filter is_open (cast ∷ []) in
-    let one = sum_by-cons waits cast [] in
+pub waiting-begun : (broadcasts : List Broadcast) (broadcast : Broadcast) → waiting_in (with_broadcast broadcasts broadcast) ≤ waiting_in broadcasts + length broadcast.waiting
+waiting-begun broadcasts broadcast =
+    let all = sum_by-append waits broadcasts (filter is_open (broadcast ∷ [])) in
+    let most = waiting-filter is_open (broadcast ∷ []) in
+    let one = sum_by-cons waits broadcast [] in
     omega (arith, all, most, one)
 
 -- A new thread waits in one broadcast at most, since its creator does.
-pub waiting-joined : (parent child : ℕ) (casts : List Broadcast) → AllPairs SharesNone casts → waiting_in (joined parent child casts) ≤ waiting_in casts + 1
+pub waiting-joined : (parent child : ℕ) (broadcasts : List Broadcast) → AllPairs SharesNone broadcasts → waiting_in (joined parent child broadcasts) ≤ waiting_in broadcasts + 1
 waiting-joined parent child [] apart = omega arith
 waiting-joined parent child (b ∷ bs) apart =
     by (waits_in parent b) refl (waiting-joined parent child bs (AllPairs-tail SharesNone b bs apart))

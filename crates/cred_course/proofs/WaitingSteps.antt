@@ -17,7 +17,7 @@ use Rattle.cred_event.specs.declared.answer.Answer.TheVariants.{Acted, Aborted, 
 use Rattle.cred_event.specs.declared.answer.AbortCause.TheVariants as cause
 use Rattle.cred_record.specs.declared.refusal.Denial.{Denial}
 use Rattle.cred_model.specs.Script.{Script}
-use Rattle.cred_model.specs.State.{State, Task, Broadcast, Numbered, numbered, task_of, cast_of}
+use Rattle.cred_model.specs.State.{State, Task, Broadcast, Numbered, numbered, task_of, broadcast_of}
 use Rattle.cred_model.specs.Ends.{is_beside}
 use Rattle.cred_model.specs.Casts.{others_of, waits_no_more, dropped}
 use Rattle.cred_model.specs.Change.{by_rule}
@@ -28,10 +28,10 @@ use Rattle.cred_model.specs.Step.{aborted, follow, outcome, step}
 use Rattle.cred_model.proofs.Rising.{length-in_order}
 use Rattle.cred_sound.specs.Sound.{IsSound}
 use Rattle.cred_sound.proofs.Tests.{in_slots}
-use Rattle.cred_sound.proofs.Parts.{TasksChange, Cause, Creation, Death, begun, casts_left, ByBegin, ByAct, ByRaw, ByCommit, BySpawn, ByFork, ByExit, ByAbort}
+use Rattle.cred_sound.proofs.Parts.{TasksChange, Cause, Creation, Death, begun, broadcasts_left, ByBegin, ByAct, ByRaw, ByCommit, BySpawn, ByFork, ByExit, ByAbort}
 use Rattle.cred_sound.proofs.Parts.{SameTasks, SetsFlag, Creates, Shares, Renews, Overrides, Fewer}
 use Rattle.cred_sound.proofs.Events.{changes}
-use Rattle.cred_cast.proofs.Conditions.{casts_are, least_waits}
+use Rattle.cred_cast.proofs.Conditions.{broadcasts_are, least_waits}
 use Rattle.cred_course.specs.Waiting.{waiting, waiting_in}
 use Rattle.cred_course.proofs.Waiting.{waiting-acted, waiting-begun, waiting-filter, waiting-joined, waiting-left}
 
@@ -48,18 +48,18 @@ abbrev Raises : State → Event → Answer × State → Type 0
 Raises s event made = waiting made.1 ≤ waiting s + more_wait event
 
 -- where no broadcast changes
-no_more : (s : State) (event : Event) (made : Answer × State) → made.1.casts ≡ s.casts → Raises s event made
+no_more : (s : State) (event : Event) (made : Answer × State) → made.1.broadcasts ≡ s.broadcasts → Raises s event made
 no_more s event made same =
     let now : waiting made.1 ≡ waiting s = ap waiting_in same in omega (arith, now)
 
 -- where some tasks wait no longer, and none begins to
-fewer_wait : (s : State) (event : Event) (made : Answer × State) (casts : List Broadcast) → made.1.casts ≡ casts
-    → waiting_in casts ≤ waiting s → Raises s event made
-fewer_wait s event made casts is fewer =
-    let now : waiting made.1 ≡ waiting_in casts = ap waiting_in is in omega (arith, now, fewer)
+fewer_wait : (s : State) (event : Event) (made : Answer × State) (broadcasts : List Broadcast) → made.1.broadcasts ≡ broadcasts
+    → waiting_in broadcasts ≤ waiting s → Raises s event made
+fewer_wait s event made broadcasts is fewer =
+    let now : waiting made.1 ≡ waiting_in broadcasts = ap waiting_in is in omega (arith, now, fewer)
 
-drop_fewer : (process : ℕ) (casts : List Broadcast) → waiting_in (dropped process casts) ≤ waiting_in casts
-drop_fewer process casts = waiting-filter (λ cast. not (cast.process == process)) casts
+drop_fewer : (process : ℕ) (broadcasts : List Broadcast) → waiting_in (dropped process broadcasts) ≤ waiting_in broadcasts
+drop_fewer process broadcasts = waiting-filter (λ broadcast. not (broadcast.process == process)) broadcasts
 
 others_few : (owner : Task) (tasks : List Task) → length (others_of owner tasks) ≤ length tasks
 others_few owner tasks =
@@ -67,49 +67,49 @@ others_few owner tasks =
     let long = length-in_order (map (λ (t : Task). t.number) beside) ∙ length-map beside (λ (t : Task). t.number) in
     omega (arith, long, length-filter (is_beside owner) tasks, count_by-le-length (is_beside owner) tasks)
 
-left_fewer : (change : Change) (owner : Task) (casts : List Broadcast) → waiting_in (casts_left change owner casts) ≤ waiting_in casts
-left_fewer (Exec file) owner casts = drop_fewer owner.process casts
-left_fewer change owner casts = omega arith
+left_fewer : (change : Change) (owner : Task) (broadcasts : List Broadcast) → waiting_in (broadcasts_left change owner broadcasts) ≤ waiting_in broadcasts
+left_fewer (Exec file) owner broadcasts = drop_fewer owner.process broadcasts
+left_fewer change owner broadcasts = omega arith
 
 renewed_waits : (s : State) (event : Event) (task : ℕ) (owner : Task) (ends : Task → Bool) (c : Credential) (made : Answer × State)
     → length s.tasks ≤ TASKS → Cause s event task owner ends c made → Raises s event made
-renewed_waits s event task owner ends c made few (ByBegin call before number slot is has ruled new idle none casts answer flags) =
-    let cast = begun number owner call s.tasks in
+renewed_waits s event task owner ends c made few (ByBegin call before number slot is has ruled new idle none broadcasts answer flags) =
+    let broadcast = begun number owner call s.tasks in
     let now : waiting made.1 ≤ waiting s + length (others_of owner s.tasks)
-    = subst (λ bs. waiting_in bs ≤ waiting s + length (others_of owner s.tasks)) (sym casts) (waiting-begun s.casts cast) in
+    = subst (λ bs. waiting_in bs ≤ waiting s + length (others_of owner s.tasks)) (sym broadcasts) (waiting-begun s.broadcasts broadcast) in
     let most : more_wait event ≡ TASKS = ap more_wait is in
     omega (arith, now, most, few, others_few owner s.tasks)
-renewed_waits s event task owner ends c made few (ByAct number slot cast before is opened first has ruled none casts answer flags) =
-    fewer_wait s event made (waits_no_more task s.casts) casts (waiting-left task s.casts)
-renewed_waits s event task owner ends c made few (ByRaw call before slot is has ruled idle none casts answer flags) = no_more s event made casts
-renewed_waits s event task owner ends c made few (ByCommit label place slot count p last is first at own changed same cred ending casts answer flags) =
-    fewer_wait s event made (casts_left last.change owner s.casts) casts (left_fewer last.change owner s.casts)
+renewed_waits s event task owner ends c made few (ByAct number slot broadcast before is opened first has ruled none broadcasts answer flags) =
+    fewer_wait s event made (waits_no_more task s.broadcasts) broadcasts (waiting-left task s.broadcasts)
+renewed_waits s event task owner ends c made few (ByRaw call before slot is has ruled idle none broadcasts answer flags) = no_more s event made broadcasts
+renewed_waits s event task owner ends c made few (ByCommit label place slot count p last is first at own changed same cred ending broadcasts answer flags) =
+    fewer_wait s event made (broadcasts_left last.change owner s.broadcasts) broadcasts (left_fewer last.change owner s.broadcasts)
 
 created_waits : (s : State) (event : Event) (task child process : ℕ) (made : Answer × State) → IsSound s
     → Creation s event task child process made → Raises s event made
-created_waits s event task child process made sound (BySpawn owner is found of casts flags) =
+created_waits s event task child process made sound (BySpawn owner is found of broadcasts flags) =
     let now : waiting made.1 ≤ waiting s + 1
-    = subst (λ bs. waiting_in bs ≤ waiting s + 1) (sym casts) (waiting-joined task child s.casts (casts_are s sound).apart) in
+    = subst (λ bs. waiting_in bs ≤ waiting s + 1) (sym broadcasts) (waiting-joined task child s.broadcasts (broadcasts_are s sound).apart) in
     let most : more_wait event ≡ 1 = ap more_wait is in
     omega (arith, now, most)
-created_waits s event task child process made sound (ByFork by is known unused casts flags) = no_more s event made casts
+created_waits s event task child process made sound (ByFork by is known unused broadcasts flags) = no_more s event made broadcasts
 
 ended_waits : (s : State) (event : Event) (ends : Task → Bool) (made : Answer × State) → Death s event ends made → Raises s event made
-ended_waits s event ends made (ByExit task gone is known ending idle casts flags) =
-    fewer_wait s event made (waits_no_more task s.casts) casts (waiting-left task s.casts)
-ended_waits s event ends made (ByAbort number task why cast is ending casts answer flags) =
-    fewer_wait s event made (dropped cast.process s.casts) casts (drop_fewer cast.process s.casts)
+ended_waits s event ends made (ByExit task gone is known ending idle broadcasts flags) =
+    fewer_wait s event made (waits_no_more task s.broadcasts) broadcasts (waiting-left task s.broadcasts)
+ended_waits s event ends made (ByAbort number task why broadcast is ending broadcasts answer flags) =
+    fewer_wait s event made (dropped broadcast.process s.broadcasts) broadcasts (drop_fewer broadcast.process s.broadcasts)
 
 change_waits : {script : Script} → (s : State) (event : Event) (made : Answer × State) → IsSound s → length s.tasks ≤ TASKS
     → TasksChange script s event made → Raises s event made
-change_waits s event made sound few (SameTasks same casts flags) = no_more s event made casts
-change_waits s event made sound few (SetsFlag task value owner flag is found known same casts flags) = no_more s event made casts
-change_waits s event made sound few (Creates task process user group ns slot is tasks creds new idle casts flags) = no_more s event made casts
+change_waits s event made sound few (SameTasks same broadcasts flags) = no_more s event made broadcasts
+change_waits s event made sound few (SetsFlag task value owner flag is found known same broadcasts flags) = no_more s event made broadcasts
+change_waits s event made sound few (Creates task process user group ns slot is tasks creds new idle broadcasts flags) = no_more s event made broadcasts
 change_waits s event made sound few (Shares task child process parent tasks creds current new creation) =
     created_waits s event task child process made sound creation
 change_waits s event made sound few (Renews task slot owner c ends tasks creds found cause) =
     renewed_waits s event task owner ends c made few cause
-change_waits s event made sound few (Overrides task numbers tasks refer casts flags) = no_more s event made casts
+change_waits s event made sound few (Overrides task numbers tasks refer broadcasts flags) = no_more s event made broadcasts
 change_waits s event made sound few (Fewer ends tasks creds death) = ended_waits s event ends made death
 
 -- Only where an id call begins or a thread is created does anybody begin to wait.
@@ -129,24 +129,24 @@ act_tested : {A : Type 0} (s : State) (number : ℕ) (found : Option A) (f : A �
 act_tested s number None f each = λ waits. cc
 act_tested s number (Some x) f each = each x refl
 
-follow_lowers : (s : State) (number task : ℕ) (cast : Broadcast) (owner : Task) (old : Numbered) (made : Result Credential Denial)
-    → cast_of s number ≡ Some cast → slice_get cast.waiting 0 ≡ Some task
-    → Lowers s (follow s cast task owner old (by_rule made))
-follow_lowers s number task cast owner old (Err refusal) opened first = λ waits. cc
-follow_lowers s number task cast owner old (Ok new) opened first =
-    in_slots (Lowers s) s (λ now. (Aborted task cause.Full, aborted cast now))
+follow_lowers : (s : State) (number task : ℕ) (broadcast : Broadcast) (owner : Task) (old : Numbered) (made : Result Credential Denial)
+    → broadcast_of s number ≡ Some broadcast → slice_get broadcast.waiting 0 ≡ Some task
+    → Lowers s (follow s broadcast task owner old (by_rule made))
+follow_lowers s number task broadcast owner old (Err refusal) opened first = λ waits. cc
+follow_lowers s number task broadcast owner old (Ok new) opened first =
+    in_slots (Lowers s) s (λ now. (Aborted task cause.Full, aborted broadcast now))
     (λ now slot. (
-      Acted task (length now.creds) slot (length cast.waiting - 1),
-      record (replaced now task old.number new slot) { casts = waits_no_more task now.casts; dumpable = renewed now.dumpable owner.process (differs old.cred new) },
+      Acted task (length now.creds) slot (length broadcast.waiting - 1),
+      record (replaced now task old.number new slot) { broadcasts = waits_no_more task now.broadcasts; dumpable = renewed now.dumpable owner.process (differs old.cred new) },
     ))
     (λ left fewer waits. cc)
-    (λ left slot fewer free waits. waiting-acted task number s.casts cast opened (least_waits cast task first))
+    (λ left slot fewer free waits. waiting-acted task number s.broadcasts broadcast opened (least_waits broadcast task first))
 
 pub act_lowers : (script : Script) (s : State) (line number : ℕ) → some_wait (step script s line (Act number)).0 ≡ true
     → waiting (step script s line (Act number)).1 < waiting s
 act_lowers script s line number =
-    act_tested s number (cast_of s number) _
-    (λ cast opened. act_tested s number (slice_get cast.waiting 0) _
+    act_tested s number (broadcast_of s number) _
+    (λ broadcast opened. act_tested s number (slice_get broadcast.waiting 0) _
     (λ task first. act_tested s number (task_of s task) _
     (λ owner found. act_tested s number (numbered s.creds owner.current) _
-    (λ old at. follow_lowers s number task cast owner old (set_id old.cred cast.call) opened first))))
+    (λ old at. follow_lowers s number task broadcast owner old (set_id old.cred broadcast.call) opened first))))

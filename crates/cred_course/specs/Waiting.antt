@@ -5,7 +5,7 @@ use Rattle.cred_model.specs.State.{State, Broadcast}
 
 -- how many tasks wait to make a call that one of their process has begun
 abbrev pub waiting_in : List Broadcast → ℕ
-waiting_in casts = sum_by (λ cast. length cast.waiting) casts
+waiting_in broadcasts = sum_by (λ broadcast. length broadcast.waiting) broadcasts
 
 abbrev pub waiting : State → ℕ
-waiting s = waiting_in s.casts
+waiting s = waiting_in s.broadcasts

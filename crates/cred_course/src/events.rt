@@ -36,7 +36,7 @@ pub(crate) fn event_in(
             task: *task,
             call: call.copy()?,
         }),
-        (Content::Id { .. }, Stage::Acting) => Some(Event::Act { cast: line }),
+        (Content::Id { .. }, Stage::Acting) => Some(Event::Act { broadcast: line }),
         (Content::Question { task, query }, _) => question_event(line, *task, *query, stage),
         (
             Content::Open {

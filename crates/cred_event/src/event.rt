@@ -130,7 +130,7 @@ pub enum Event {
     },
     /// The next of the threads that wait in the broadcast follows it.
     Act {
-        cast: u32,
+        broadcast: u32,
     },
     /// The file is opened under the descriptor, by the credential that `hold` holds.
     OpenFile {

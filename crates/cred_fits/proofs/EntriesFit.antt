@@ -23,7 +23,7 @@ use Rattle.cred_fits.specs.Content.{FitsFile}
 use Rattle.cred_fits.specs.Fitting.{EventFits, EntriesFit, OneFittingList}
 use Rattle.cred_fits.proofs.EventsFit.{each_at, events_fit}
 use Rattle.cred_fits.proofs.InfosFit.{step_infos, opening_infos}
-use Rattle.cred_fits.proofs.Ranges.{FitsSealed, FitsTask, FitsCast, FitsPrepared, IsInRange, Good, some_fits}
+use Rattle.cred_fits.proofs.Ranges.{FitsSealed, FitsTask, FitsBroadcast, FitsPrepared, IsInRange, Good, some_fits}
 use Rattle.cred_fits.proofs.RowLaws.{answers_are_of_their_rows}
 use Rattle.cred_fits.proofs.ScriptFits.{script_fits}
 use Rattle.cred_fits.proofs.Spent.{few_sealed, short}
@@ -34,7 +34,7 @@ opening_range : (script : Script) → IsInRange (opening script)
 opening_range script = record {
   creds = All-nil FitsSealed;
   tasks = All-nil FitsTask;
-  casts = All-nil FitsCast;
+  broadcasts = All-nil FitsBroadcast;
   prepared = All-nil FitsPrepared;
 }
 

@@ -23,8 +23,8 @@ FitsSealed sealed = FitsCred sealed.cred × (sealed.slot < SLOTS)
 abbrev pub FitsTask : Task → Type 0
 FitsTask t = IsNumber t.number × (length t.overrides ≤ DEPTH)
 
-abbrev pub FitsCast : Broadcast → Type 0
-FitsCast cast = IsNumber cast.number × FitsCall cast.call × All IsNumber cast.waiting
+abbrev pub FitsBroadcast : Broadcast → Type 0
+FitsBroadcast broadcast = IsNumber broadcast.number × FitsCall broadcast.call × All IsNumber broadcast.waiting
 
 abbrev pub FitsChanged : Changed → Type 0
 FitsChanged last = FitsCred last.cred × FitsGains last.gains
@@ -36,11 +36,11 @@ FitsPrepared p = IsNumber p.task × (p.slot < SLOTS) × IfSome p.changed FitsCha
 pub record AreInRange (sealed : List SealedCred) (live : List Task) (going : List Broadcast) (labels : List Prepared) : Type 0 where
   pub creds : All FitsSealed sealed
   pub tasks : All FitsTask live
-  pub casts : All FitsCast going
+  pub broadcasts : All FitsBroadcast going
   pub prepared : All FitsPrepared labels
 
 abbrev pub IsInRange : State → Type 0
-IsInRange s = AreInRange s.creds s.tasks s.casts s.prepared
+IsInRange s = AreInRange s.creds s.tasks s.broadcasts s.prepared
 
 -- what an event answers, and the state after it
 abbrev pub Good : Answer × State → Type 0
@@ -75,10 +75,10 @@ found_by s of (Some a) c all is = is_found s (of a) c all is
 
 -- ---- tests
 
-pub idle : (s : State) (found : Option Broadcast) (f : Unit {0} → Result (Answer × State) Answer) → IfSome found FitsCast → IsInRange s
+pub idle : (s : State) (found : Option Broadcast) (f : Unit {0} → Result (Answer × State) Answer) → IfSome found FitsBroadcast → IsInRange s
     → Gives s (f tt) → Gives s (not_busy found >>= f)
 idle s None f fits range each = each
-idle s (Some cast) f fits range each = (fits.0, range)
+idle s (Some broadcast) f fits range each = (fits.0, range)
 
 pub own : (s : State) (t : Task) (f : Unit {0} → Result (Answer × State) Answer) → FitsTask t → IsInRange s → Gives s (f tt)
     → Gives s (not_overridden t >>= f)

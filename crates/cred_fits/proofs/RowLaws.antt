@@ -38,7 +38,7 @@ use Rattle.cred_event.specs.declared.event.Side.{Side}
 use Rattle.cred_event.specs.Answers.{is_ok}
 use Rattle.cred_model.specs.Answers.{flag, checked, reply}
 use Rattle.cred_model.specs.Change.{Made, by_rule, made_by_rule, made_by_execve, made_by_exec, by_change}
-use Rattle.cred_model.specs.Casts.{others_of, with_cast, waits_no_more}
+use Rattle.cred_model.specs.Casts.{others_of, with_broadcast, waits_no_more}
 use Rattle.cred_model.specs.Dumpable.{differs, renewed, set_flag, flags_begun, flags_committed}
 use Rattle.cred_model.specs.Ends.{ended, is_thread_of}
 use Rattle.cred_model.specs.Moves.{in_slot, table_full, first_task, created, replaced}
@@ -46,10 +46,10 @@ use Rattle.cred_model.specs.Moves.{preparing, altered, committed, given_up}
 use Rattle.cred_model.specs.Named.{query_files, change_files}
 use Rattle.cred_model.specs.Script.{Script, chain_of, root_of}
 use Rattle.cred_model.specs.Slots.{swept_if_full, free}
-use Rattle.cred_model.specs.State.{State, Task, Numbered, Prepared, Changed, Broadcast, numbered, task_of, cast_of, cast_in, begun_by, open_of, hold_of}
+use Rattle.cred_model.specs.State.{State, Task, Numbered, Prepared, Changed, Broadcast, numbered, task_of, broadcast_of, broadcast_in, begun_by, open_of, hold_of}
 use Rattle.cred_model.specs.State.{prepared_of, credential_of, opener_of, held_by, info_of}
 use Rattle.cred_model.specs.Step.{outcome, by_init, take_hold, by_take, by_take_file, by_release, by_ask, by_signal, by_prepare, by_alter, for_task, try_commit}
-use Rattle.cred_model.specs.Step.{ends_with, casts_after, committed_by, commit_answer, by_commit, by_abort, for_access, override_held, override_prepared}
+use Rattle.cred_model.specs.Step.{ends_with, broadcasts_after, committed_by, commit_answer, by_commit, by_abort, for_access, override_held, override_prepared}
 use Rattle.cred_model.specs.Step.{by_override, by_revert, by_begin, aborted, follow, by_act, by_open, by_close, by_spawn, by_fork, by_exit, by_dumpable}
 use Rattle.cred_model.specs.Step.{by_dumped, by_ptrace, by_file, by_stat, by_raw}
 use Rattle.cred_laws.proofs.Cases.{some_case, none_case, test_case, own_case, idle_case}
@@ -78,7 +78,7 @@ slot_tells row s full does none each = found_slot row (swept_if_full s) full doe
 of_init : (s : State) (task process user group ns root : ℕ) → Tells rows.init_row s (by_init s task process user group ns root)
 of_init s task process user group ns root =
     let Q = Tells rows.init_row s in
-    idle_case Q (cast_in s process) _ (λ number. refl) (λ idle.
+    idle_case Q (broadcast_in s process) _ (λ number. refl) (λ idle.
     none_case Q (task_of s task) _ _ refl (λ new.
     test_case Q (nat_lt (length s.tasks) TASKS) _ _ refl
     (slot_tells rows.init_row s table_full
@@ -245,7 +245,7 @@ tried s place p owner last =
     let ends = ends_with last.change owner in
     elim (owner.current == p.base) as (λ b. IsCommitted (cond b (
       commit_answer last (length s.creds) p.slot (count_by ends s.tasks),
-      record (casts_after last.change owner (committed (ended ends s) place p owner.current last.cred)) { dumpable = flags_committed s owner last },
+      record (broadcasts_after last.change owner (committed (ended ends s) place p owner.current last.cred)) { dumpable = flags_committed s owner last },
     )
     (answer.Stale p.base owner.current, given_up s place p))) [
       | true ↦ of_committed last.change last.gains (length s.creds) p.slot (count_by ends s.tasks)
@@ -313,7 +313,7 @@ of_raw s task call =
     let Q = Tells row s in
     some_case Q (task_of s task) _ _ refl (λ owner is.
     some_case Q (numbered s.creds owner.current) _ _ refl (λ old is.
-    idle_case Q (cast_in s owner.process) _ (λ number. refl) (λ idle.
+    idle_case Q (broadcast_in s owner.process) _ (λ number. refl) (λ idle.
     own_case Q owner _ (λ depth. refl)
     (of_raw_made s call (set_id old.cred call) _ (of_call old.cred call) (λ made valid.
     slot_tells row s table_full
@@ -327,35 +327,35 @@ of_begin s line task call =
     let Q = Tells row s in
     some_case Q (task_of s task) _ _ refl (λ owner is.
     some_case Q (numbered s.creds owner.current) _ _ refl (λ old is.
-    idle_case Q (cast_in s owner.process) _ (λ number. refl) (λ idle.
-    none_case Q (cast_of s line) _ _ refl (λ new.
+    idle_case Q (broadcast_in s owner.process) _ (λ number. refl) (λ idle.
+    none_case Q (broadcast_of s line) _ _ refl (λ new.
     own_case Q owner _ (λ depth. refl)
     (of_made s call (set_id old.cred call) _ (of_call old.cred call) (λ made valid.
     let others = others_of owner s.tasks in
-    let cast : Broadcast = record { number = line; process = owner.process; caller = task; call = call; waiting = others } in
+    let broadcast : Broadcast = record { number = line; process = owner.process; caller = task; call = call; waiting = others } in
     slot_tells row s table_full
     (λ t slot.
-    (answer.Began (length t.creds) slot (length others), record (replaced t task old.number made slot) { casts = with_cast t.casts cast; dumpable = renewed t.dumpable owner.process (differs old.cred made) }))
+    (answer.Began (length t.creds) slot (length others), record (replaced t task old.number made slot) { broadcasts = with_broadcast t.broadcasts broadcast; dumpable = renewed t.dumpable owner.process (differs old.cred made) }))
     (λ t. ap not valid) (λ t slot. ap not valid)))))))
 
-followed : (s : State) (cast : Broadcast) (task : ℕ) (owner : Task) (old : Numbered) (r : Result Credential Answer)
-    → rows.act_row (follow s cast task owner old r).0 ≡ true
-followed s cast task owner old (Err refused) = refl
-followed s cast task owner old (Ok made) =
+followed : (s : State) (broadcast : Broadcast) (task : ℕ) (owner : Task) (old : Numbered) (r : Result Credential Answer)
+    → rows.act_row (follow s broadcast task owner old r).0 ≡ true
+followed s broadcast task owner old (Err refused) = refl
+followed s broadcast task owner old (Ok made) =
     slot_tells rows.act_row s
-    (λ t. (answer.Aborted task cause.Full, aborted cast t))
+    (λ t. (answer.Aborted task cause.Full, aborted broadcast t))
     (λ t slot.
-    (answer.Acted task (length t.creds) slot (length cast.waiting - 1), record (replaced t task old.number made slot) { casts = waits_no_more task t.casts; dumpable = renewed t.dumpable owner.process (differs old.cred made) }))
+    (answer.Acted task (length t.creds) slot (length broadcast.waiting - 1), record (replaced t task old.number made slot) { broadcasts = waits_no_more task t.broadcasts; dumpable = renewed t.dumpable owner.process (differs old.cred made) }))
     (λ t. refl) (λ t slot. refl)
 
 of_act : (s : State) (number : ℕ) → Tells rows.act_row s (by_act s number)
 of_act s number =
     let Q = Tells rows.act_row s in
-    some_case Q (cast_of s number) _ _ refl (λ cast is.
-    some_case Q (slice_get cast.waiting 0) _ _ refl (λ task is.
+    some_case Q (broadcast_of s number) _ _ refl (λ broadcast is.
+    some_case Q (slice_get broadcast.waiting 0) _ _ refl (λ task is.
     some_case Q (task_of s task) _ _ refl (λ owner is.
     some_case Q (numbered s.creds owner.current) _ _ refl (λ old is.
-    followed s cast task owner old (by_rule (set_id old.cred cast.call))))))
+    followed s broadcast task owner old (by_rule (set_id old.cred broadcast.call))))))
 
 -- ---- files and tasks
 

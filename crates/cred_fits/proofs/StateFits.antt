@@ -37,10 +37,10 @@ use Rattle.cred_model.specs.Moves.{overriding, with_change, relabelled}
 use Rattle.cred_model.specs.Named.{query_files, change_files}
 use Rattle.cred_model.specs.Script.{Script, chain_of}
 use Rattle.cred_model.specs.Slots.{refs}
-use Rattle.cred_model.specs.State.{State, SealedCred, Task, Numbered, Prepared, Changed, Broadcast, numbered, number_on, task_of, cast_in, begun_by, open_of}
+use Rattle.cred_model.specs.State.{State, SealedCred, Task, Numbered, Prepared, Changed, Broadcast, numbered, number_on, task_of, broadcast_in, begun_by, open_of}
 use Rattle.cred_model.specs.State.{hold_of, prepared_of, credential_of, opener_of, held_by, info_of}
 use Rattle.cred_model.specs.Step.{by_init, take_hold, by_take, by_take_file, by_release, by_ask, by_signal, by_prepare, by_alter, is_access, for_task}
-use Rattle.cred_model.specs.Step.{try_commit, ends_with, casts_after, committed_by, commit_answer, by_commit, by_dumpable, by_dumped, by_ptrace, by_file}
+use Rattle.cred_model.specs.Step.{try_commit, ends_with, broadcasts_after, committed_by, commit_answer, by_commit, by_dumpable, by_dumped, by_ptrace, by_file}
 use Rattle.cred_model.specs.Step.{by_stat}
 use Rattle.cred_model.proofs.Lists.{All-at, All-kept, All-remove, find_each, get_each}
 use Rattle.cred_model.proofs.Numbers.{updated_as, overriding_as, changed_as}
@@ -54,7 +54,7 @@ use Rattle.cred_reader.specs.Fits.{IsNumber, IsLong, FitsChange, FitsEvent, Fits
 use Rattle.cred_fits.specs.Content.{FitsFile}
 use Rattle.cred_fits.proofs.CredFits.{FitsCred}
 use Rattle.cred_fits.proofs.ChangeFits.{FitsMade, first_fits, change_made_fits}
-use Rattle.cred_fits.proofs.Ranges.{FitsSealed, FitsTask, FitsCast, FitsChanged, FitsPrepared, AreInRange, IsInRange, Good, Gives, some_fits, IsFound, is_found}
+use Rattle.cred_fits.proofs.Ranges.{FitsSealed, FitsTask, FitsBroadcast, FitsChanged, FitsPrepared, AreInRange, IsInRange, Good, Gives, some_fits, IsFound, is_found}
 use Rattle.cred_fits.proofs.Ranges.{found_by, idle, own}
 
 -- what is known of a state before an event
@@ -86,25 +86,25 @@ overrides_fit tasks task numbers few all =
 pub survivors_fit : (ends : Task → Bool) (tasks : List Task) → All FitsTask tasks → All FitsTask (survivors ends tasks)
 survivors_fit ends tasks all = All-passed (λ t. not (ends t)) FitsTask FitsTask tasks (λ t test h. h) all
 
-pub dropped_fit : (process : ℕ) (casts : List Broadcast) → All FitsCast casts → All FitsCast (dropped process casts)
-dropped_fit process casts all = All-passed (λ (cast : Broadcast). not (cast.process == process)) FitsCast FitsCast casts (λ b test h. h) all
+pub dropped_fit : (process : ℕ) (broadcasts : List Broadcast) → All FitsBroadcast broadcasts → All FitsBroadcast (dropped process broadcasts)
+dropped_fit process broadcasts all = All-passed (λ (broadcast : Broadcast). not (broadcast.process == process)) FitsBroadcast FitsBroadcast broadcasts (λ b test h. h) all
 
-without_fits : (task : ℕ) (cast : Broadcast) → FitsCast cast → FitsCast (without_waiter task cast)
-without_fits task cast fits = (fits.0, fits.1, All-passed (λ n. not (n == task)) IsNumber IsNumber cast.waiting (λ n test h. h) fits.2)
+without_fits : (task : ℕ) (broadcast : Broadcast) → FitsBroadcast broadcast → FitsBroadcast (without_waiter task broadcast)
+without_fits task broadcast fits = (fits.0, fits.1, All-passed (λ n. not (n == task)) IsNumber IsNumber broadcast.waiting (λ n test h. h) fits.2)
 
-pub left_fit : (task : ℕ) (casts : List Broadcast) → All FitsCast casts → All FitsCast (waits_no_more task casts)
-left_fit task casts all =
-    All-passed is_open FitsCast FitsCast _ (λ b test h. h) (All-kept FitsCast (without_waiter task) casts (without_fits task) all)
+pub left_fit : (task : ℕ) (broadcasts : List Broadcast) → All FitsBroadcast broadcasts → All FitsBroadcast (waits_no_more task broadcasts)
+left_fit task broadcasts all =
+    All-passed is_open FitsBroadcast FitsBroadcast _ (λ b test h. h) (All-kept FitsBroadcast (without_waiter task) broadcasts (without_fits task) all)
 
-child_fits : (parent child : ℕ) (cast : Broadcast) → IsNumber child → FitsCast cast → FitsCast (with_child parent child cast)
-child_fits parent child cast small fits = by (waits_in parent cast)
+child_fits : (parent child : ℕ) (broadcast : Broadcast) → IsNumber child → FitsBroadcast broadcast → FitsBroadcast (with_child parent child broadcast)
+child_fits parent child broadcast small fits = by (waits_in parent broadcast)
   where
-    by : (b : Bool) → FitsCast (cond b (record cast { waiting = in_order (cast.waiting ++ child ∷ []) }) cast)
-    by true = (fits.0, fits.1, All-in_order IsNumber _ (All-push IsNumber cast.waiting child fits.2 small))
+    by : (b : Bool) → FitsBroadcast (cond b (record broadcast { waiting = in_order (broadcast.waiting ++ child ∷ []) }) broadcast)
+    by true = (fits.0, fits.1, All-in_order IsNumber _ (All-push IsNumber broadcast.waiting child fits.2 small))
     by false = fits
 
-pub joined_fit : (parent child : ℕ) (casts : List Broadcast) → IsNumber child → All FitsCast casts → All FitsCast (joined parent child casts)
-joined_fit parent child casts small all = All-kept FitsCast (with_child parent child) casts (λ b h. child_fits parent child b small h) all
+pub joined_fit : (parent child : ℕ) (broadcasts : List Broadcast) → IsNumber child → All FitsBroadcast broadcasts → All FitsBroadcast (joined parent child broadcasts)
+joined_fit parent child broadcasts small all = All-kept FitsBroadcast (with_child parent child) broadcasts (λ b h. child_fits parent child b small h) all
 
 pub prepared_at : (s : State) (place : ℕ) (p : Prepared) → IsInRange s → slice_get s.prepared place ≡ Some p → FitsPrepared p
 prepared_at s place p range is = All-at FitsPrepared s.prepared place p is range.prepared
@@ -118,7 +118,7 @@ pub of_init : (s : State) (task process user group ns root : ℕ) → IsKnown s 
     → Gives s (by_init s task process user group ns root)
 of_init s task process user group ns root known fits =
     let range = known.range in
-    idle s (cast_in s process) _ (find_each FitsCast (λ b. b.process == process) s.casts range.casts) range
+    idle s (broadcast_in s process) _ (find_each FitsBroadcast (λ b. b.process == process) s.broadcasts range.broadcasts) range
     (none_case (Gives s) (task_of s task) _ _ (fits.0, range) (λ new.
     test_case (Gives s) (nat_lt (length s.tasks) TASKS) _ _ (tt, range)
     (in_slots Good s table_full
@@ -132,7 +132,7 @@ of_init s task process user group ns root known fits =
       record {
         creds = with_cred s.creds _ slot range.creds (first_fits user group ns root fits.2 fits.3) free.below;
         tasks = All-push FitsTask s.tasks _ range.tasks (fits.0, omega arith);
-        casts = range.casts;
+        broadcasts = range.broadcasts;
         prepared = range.prepared;
       },
     )))))
@@ -223,7 +223,7 @@ pub of_prepare : (s : State) (label task hold : ℕ) → IsKnown s → FitsEvent
 of_prepare s label task hold known fits =
     let range = known.range in
     some_case (Gives s) (task_of s task) _ _ (fits.1, range) (λ owner is.
-    idle s (begun_by s task) _ (find_each FitsCast (λ b. b.caller == task) s.casts range.casts) range
+    idle s (begun_by s task) _ (find_each FitsBroadcast (λ b. b.caller == task) s.broadcasts range.broadcasts) range
     (some_case (Gives s) (hold_of s hold) _ _ (fits.2, range) (λ base is.
     none_case (Gives s) (hold_of s label) _ _ (fits.0, range) (λ new.
     none_case (Gives s) (prepared_of s label) _ _ (fits.0, range) (λ unprepared.
@@ -236,7 +236,7 @@ of_prepare s label task hold known fits =
       record {
         creds = range.creds;
         tasks = range.tasks;
-        casts = range.casts;
+        broadcasts = range.broadcasts;
         prepared = All-push FitsPrepared s.prepared _ range.prepared (fits.1, free.below, tt);
       },
     ))))))))
@@ -252,7 +252,7 @@ of_altered s label to (Ok made) known h = (
   record {
     creds = known.range.creds;
     tasks = known.range.tasks;
-    casts = known.range.casts;
+    broadcasts = known.range.broadcasts;
     prepared = changed_fits s label _ known.range (h.1, h.2);
   },
 )
@@ -304,22 +304,22 @@ commit_fits (change.SetFs kind id) gains number slot count g n s c = (n, s)
 commit_fits (change.Adjust call) gains number slot count g n s c = (n, s)
 commit_fits change.Access gains number slot count g n s c = (n, s)
 
-casts_after_fit : (to : Change) (owner : Task) (t : State) → IsInRange t → IsInRange (casts_after to owner t)
-casts_after_fit (change.Exec file) owner t range = record {
+broadcasts_after_fit : (to : Change) (owner : Task) (t : State) → IsInRange t → IsInRange (broadcasts_after to owner t)
+broadcasts_after_fit (change.Exec file) owner t range = record {
   creds = range.creds;
   tasks = range.tasks;
-  casts = dropped_fit owner.process t.casts range.casts;
+  broadcasts = dropped_fit owner.process t.broadcasts range.broadcasts;
   prepared = range.prepared;
 }
-casts_after_fit (change.SetFs kind id) owner t range = range
-casts_after_fit (change.Adjust call) owner t range = range
-casts_after_fit change.Access owner t range = range
+broadcasts_after_fit (change.SetFs kind id) owner t range = range
+broadcasts_after_fit (change.Adjust call) owner t range = range
+broadcasts_after_fit change.Access owner t range = range
 
-pub without_label : (s : State) (place : ℕ) → IsInRange s → AreInRange s.creds s.tasks s.casts (remove s.prepared place)
+pub without_label : (s : State) (place : ℕ) → IsInRange s → AreInRange s.creds s.tasks s.broadcasts (remove s.prepared place)
 without_label s place range = record {
   creds = range.creds;
   tasks = range.tasks;
-  casts = range.casts;
+  broadcasts = range.broadcasts;
   prepared = All-remove FitsPrepared s.prepared place range.prepared;
 }
 
@@ -339,16 +339,16 @@ tried s task place p owner last known at found relabelled =
     let ends = ends_with last.change owner in
     elim (owner.current == p.base) as (λ b. Good (cond b (
       commit_answer last (length s.creds) p.slot (count_by ends s.tasks),
-      record (casts_after last.change owner (committed (ended ends s) place p owner.current last.cred)) { dumpable = flags_committed s owner last },
+      record (broadcasts_after last.change owner (committed (ended ends s) place p owner.current last.cred)) { dumpable = flags_committed s owner last },
     )
     (answer.Stale p.base owner.current, given_up s place p))) [
       | true ↦ (
         commit_fits last.change last.gains (length s.creds) p.slot (count_by ends s.tasks) relabelled.1 known.creds (slot_number p.slot fits.1)
             (let few = known.tasks in omega (arith, few, count_by-le-length ends s.tasks)),
-        casts_after_fit last.change owner (committed (ended ends s) place p owner.current last.cred) (record {
+        broadcasts_after_fit last.change owner (committed (ended ends s) place p owner.current last.cred) (record {
           creds = with_cred s.creds last.cred p.slot range.creds relabelled.0 fits.1;
           tasks = current_fits (survivors ends s.tasks) p.task (length s.creds) (survivors_fit ends s.tasks range.tasks);
-          casts = range.casts;
+          broadcasts = range.broadcasts;
           prepared = All-remove FitsPrepared s.prepared place range.prepared;
         }),
       )
@@ -374,6 +374,6 @@ of_commit s label known l =
     let fits = prepared_at s place p range is in
     some_case (Gives s) (option_and_then for_task p.changed) _ _ (l, range) (λ last made.
     some_case (Gives s) (task_of s p.task) _ _ (fits.0, range) (λ owner found.
-    idle s (begun_by s p.task) _ (find_each FitsCast (λ b. b.caller == p.task) s.casts range.casts) range
+    idle s (begun_by s p.task) _ (find_each FitsBroadcast (λ b. b.caller == p.task) s.broadcasts range.broadcasts) range
     (own s owner _ (owner_fits s p.task owner range found) range
     (tried s p.task place p owner last known is found (last_fits p.changed last fits.2 made)))))))

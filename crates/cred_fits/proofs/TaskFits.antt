@@ -22,13 +22,13 @@ use Rattle.cred_event.specs.declared.event.Event.{Event}
 use Rattle.cred_event.specs.declared.event.Event.TheVariants as event
 use Rattle.cred_event.specs.Answers.{is_ok}
 use Rattle.cred_model.specs.Answers.{checked}
-use Rattle.cred_model.specs.Casts.{others_of, with_cast, waits_no_more, is_open}
+use Rattle.cred_model.specs.Casts.{others_of, with_broadcast, waits_no_more, is_open}
 use Rattle.cred_model.specs.Change.{by_rule}
 use Rattle.cred_model.specs.Dumpable.{differs, renewed}
 use Rattle.cred_model.specs.Ends.{is_thread_of, is_beside, is_task}
 use Rattle.cred_model.specs.Moves.{table_full, first_task, replaced}
 use Rattle.cred_model.specs.Script.{Script, root_of}
-use Rattle.cred_model.specs.State.{State, Task, Numbered, Prepared, Changed, Broadcast, numbered, task_of, cast_of, cast_in, begun_by, open_of, hold_of}
+use Rattle.cred_model.specs.State.{State, Task, Numbered, Prepared, Changed, Broadcast, numbered, task_of, broadcast_of, broadcast_in, begun_by, open_of, hold_of}
 use Rattle.cred_model.specs.State.{held_by, info_of}
 use Rattle.cred_model.specs.Step.{step, is_access, by_abort, for_access, override_held, override_prepared, by_override, by_revert, by_begin, aborted, follow}
 use Rattle.cred_model.specs.Step.{by_act, by_open, by_close, by_spawn, by_fork, by_exit, by_raw}
@@ -42,7 +42,7 @@ use Rattle.cred_sound.proofs.Parts.{with_left}
 use Rattle.cred_reader.specs.Fits.{IsNumber, FitsCall, FitsEvent}
 use Rattle.cred_reader.proofs.Spelled.{Holds}
 use Rattle.cred_fits.proofs.CredFits.{FitsCred, call_made_fits}
-use Rattle.cred_fits.proofs.Ranges.{FitsTask, FitsCast, FitsChanged, FitsPrepared, IsInRange, Good, Gives, some_fits, IsFound, is_found, found_by, idle, own}
+use Rattle.cred_fits.proofs.Ranges.{FitsTask, FitsBroadcast, FitsChanged, FitsPrepared, IsInRange, Good, Gives, some_fits, IsFound, is_found, found_by, idle, own}
 use Rattle.cred_fits.proofs.Ranges.{fewer}
 use Rattle.cred_fits.proofs.StateFits.{IsKnown, slot_number, with_cred, current_fits, overrides_fit, survivors_fit, dropped_fit, left_fit, joined_fit}
 use Rattle.cred_fits.proofs.StateFits.{prepared_at, owner_fits, found_answer, without_label, of_init, of_take, of_take_file, of_release, of_ask, of_signal}
@@ -76,7 +76,7 @@ overridden_by s owner label (Some held) known l fits stands =
       record {
         creds = range.creds;
         tasks = overrides_fit s.tasks owner.number (held.number ∷ owner.overrides) (omega (arith, few)) range.tasks;
-        casts = range.casts;
+        broadcasts = range.broadcasts;
         prepared = range.prepared;
       },
     ))
@@ -91,7 +91,7 @@ overridden_by s owner label None known l fits stands =
       record {
         creds = with_cred s.creds last.cred p.slot range.creds (access_fits owner.number p last own.2 made).0 own.1;
         tasks = overrides_fit s.tasks owner.number (length s.creds ∷ owner.overrides) (omega (arith, few)) range.tasks;
-        casts = range.casts;
+        broadcasts = range.broadcasts;
         prepared = All-remove FitsPrepared s.prepared place range.prepared;
       },
     )))))
@@ -113,7 +113,7 @@ of_revert s task known t =
         tasks =
             overrides_fit s.tasks task (drop 1 owner.overrides)
             (let few = (owner_fits s task owner range is).1 in omega (arith, few, length-drop 1 owner.overrides)) range.tasks;
-        casts = range.casts;
+        broadcasts = range.broadcasts;
         prepared = range.prepared;
       },
     )))
@@ -133,10 +133,10 @@ others_fit owner tasks all =
     All-in_order IsNumber _ (All-map IsNumber (λ (t : Task). t.number) (filter (is_beside owner) tasks)
     (All-passed (is_beside owner) FitsTask (λ t. IsNumber t.number) tasks (λ t test h. h.0) all))
 
-cast_more : (casts : List Broadcast) (cast : Broadcast) → All FitsCast casts → FitsCast cast → All FitsCast (with_cast casts cast)
-cast_more casts cast all fits =
-    All-append FitsCast casts (filter is_open (cast ∷ [])) all
-    (All-passed is_open FitsCast FitsCast (cast ∷ []) (λ b test h. h) (All-cons FitsCast cast [] fits (All-nil FitsCast)))
+broadcast_more : (broadcasts : List Broadcast) (broadcast : Broadcast) → All FitsBroadcast broadcasts → FitsBroadcast broadcast → All FitsBroadcast (with_broadcast broadcasts broadcast)
+broadcast_more broadcasts broadcast all fits =
+    All-append FitsBroadcast broadcasts (filter is_open (broadcast ∷ [])) all
+    (All-passed is_open FitsBroadcast FitsBroadcast (broadcast ∷ []) (λ b test h. h) (All-cons FitsBroadcast broadcast [] fits (All-nil FitsBroadcast)))
 
 by_rule_gives : (s : State) (r : Result Credential Denial) (f : Credential → Result (Answer × State) Answer) → IsInRange s → Holds FitsCred r
     → ((c : Credential) → FitsCred c → Gives s (f c)) → Gives s (by_rule r >>= f)
@@ -150,16 +150,16 @@ of_begin s line task call known n t fits =
     some_case (Gives s) (task_of s task) _ _ (t, range) (λ owner is.
     some_case (Gives s) (numbered s.creds owner.current) _ _ (t, range) (λ old at.
     let found = is_found s owner.current old range.creds at in
-    idle s (cast_in s owner.process) _ (find_each FitsCast (λ b. b.process == owner.process) s.casts range.casts) range
-    (none_case (Gives s) (cast_of s line) _ _ (n, range) (λ new.
+    idle s (broadcast_in s owner.process) _ (find_each FitsBroadcast (λ b. b.process == owner.process) s.broadcasts range.broadcasts) range
+    (none_case (Gives s) (broadcast_of s line) _ _ (n, range) (λ new.
     own s owner _ (owner_fits s task owner range is) range
     (by_rule_gives s (set_id old.cred call) _ range (call_made_fits old.cred call found.cred fits) (λ made h.
     let others = others_of owner s.tasks in
-    let cast : Broadcast = record { number = line; process = owner.process; caller = task; call = call; waiting = others } in
+    let broadcast : Broadcast = record { number = line; process = owner.process; caller = task; call = call; waiting = others } in
     in_slots Good s table_full
     (λ t slot. (
       answer.Began (length t.creds) slot (length others),
-      record (replaced t task old.number made slot) { casts = with_cast t.casts cast; dumpable = renewed t.dumpable owner.process (differs old.cred made) },
+      record (replaced t task old.number made slot) { broadcasts = with_broadcast t.broadcasts broadcast; dumpable = renewed t.dumpable owner.process (differs old.cred made) },
     ))
     (λ left less. (tt, range))
     (λ left slot less free. (
@@ -167,7 +167,7 @@ of_begin s line task call known n t fits =
       record {
         creds = with_cred s.creds made slot range.creds h free.below;
         tasks = current_fits s.tasks task (length s.creds) range.tasks;
-        casts = cast_more s.casts cast range.casts (n, fits, others_fit owner s.tasks range.tasks);
+        broadcasts = broadcast_more s.broadcasts broadcast range.broadcasts (n, fits, others_fit owner s.tasks range.tasks);
         prepared = range.prepared;
       },
     ))))))))
@@ -182,33 +182,33 @@ waiting_few (x ∷ xs) rising all =
     let small = All-at IsNumber (x ∷ xs) (length (x ∷ xs) - 1) last.0 last.1 all in
     omega (arith, most, small)
 
-aborted_range : (cast : Broadcast) (s : State) → IsInRange s → IsInRange (aborted cast s)
-aborted_range cast s range = record {
+aborted_range : (broadcast : Broadcast) (s : State) → IsInRange s → IsInRange (aborted broadcast s)
+aborted_range broadcast s range = record {
   creds = range.creds;
-  tasks = survivors_fit (is_thread_of cast.process) s.tasks range.tasks;
-  casts = dropped_fit cast.process s.casts range.casts;
+  tasks = survivors_fit (is_thread_of broadcast.process) s.tasks range.tasks;
+  broadcasts = dropped_fit broadcast.process s.broadcasts range.broadcasts;
   prepared = range.prepared;
 }
 
-followed : (s : State) (cast : Broadcast) (task : ℕ) (owner : Task) (old : Numbered) (r : Result Credential Denial) → IsKnown s → IsNumber task
-    → IsNumber (length cast.waiting - 1) → Holds FitsCred r → Good (follow s cast task owner old (by_rule r))
-followed s cast task owner old (Err Perm) known t few h = (t, aborted_range cast s known.range)
-followed s cast task owner old (Err Invalid) known t few h = (t, aborted_range cast s known.range)
-followed s cast task owner old (Ok made) known t few h =
+followed : (s : State) (broadcast : Broadcast) (task : ℕ) (owner : Task) (old : Numbered) (r : Result Credential Denial) → IsKnown s → IsNumber task
+    → IsNumber (length broadcast.waiting - 1) → Holds FitsCred r → Good (follow s broadcast task owner old (by_rule r))
+followed s broadcast task owner old (Err Perm) known t few h = (t, aborted_range broadcast s known.range)
+followed s broadcast task owner old (Err Invalid) known t few h = (t, aborted_range broadcast s known.range)
+followed s broadcast task owner old (Ok made) known t few h =
     let range = known.range in
     in_slots Good s
-    (λ t. (answer.Aborted task cause.Full, aborted cast t))
+    (λ t. (answer.Aborted task cause.Full, aborted broadcast t))
     (λ t slot. (
-      answer.Acted task (length t.creds) slot (length cast.waiting - 1),
-      record (replaced t task old.number made slot) { casts = waits_no_more task t.casts; dumpable = renewed t.dumpable owner.process (differs old.cred made) },
+      answer.Acted task (length t.creds) slot (length broadcast.waiting - 1),
+      record (replaced t task old.number made slot) { broadcasts = waits_no_more task t.broadcasts; dumpable = renewed t.dumpable owner.process (differs old.cred made) },
     ))
-    (λ left less. (t, aborted_range cast (with_left s left) range))
+    (λ left less. (t, aborted_range broadcast (with_left s left) range))
     (λ left slot less free. (
       (t, known.creds, slot_number slot free.below, few),
       record {
         creds = with_cred s.creds made slot range.creds h free.below;
         tasks = current_fits s.tasks task (length s.creds) range.tasks;
-        casts = left_fit task s.casts range.casts;
+        broadcasts = left_fit task s.broadcasts range.broadcasts;
         prepared = range.prepared;
       },
     ))
@@ -216,16 +216,16 @@ followed s cast task owner old (Ok made) known t few h =
 of_act : (s : State) (number : ℕ) → IsKnown s → IsNumber number → Gives s (by_act s number)
 of_act s number known n =
     let range = known.range in
-    some_case (Gives s) (cast_of s number) _ _ (n, range) (λ cast is.
-    let fits = some_fits FitsCast (cast_of s number) cast (find_each FitsCast (λ b. b.number == number) s.casts range.casts) is in
+    some_case (Gives s) (broadcast_of s number) _ _ (n, range) (λ broadcast is.
+    let fits = some_fits FitsBroadcast (broadcast_of s number) broadcast (find_each FitsBroadcast (λ b. b.number == number) s.broadcasts range.broadcasts) is in
     let way =
-    some_fits (IsUnderWay s.tasks) (cast_of s number) cast (find_each (IsUnderWay s.tasks) (λ b. b.number == number) s.casts known.sound.under_way) is in
-    some_case (Gives s) (slice_get cast.waiting 0) _ _ (n, range) (λ task at.
+    some_fits (IsUnderWay s.tasks) (broadcast_of s number) broadcast (find_each (IsUnderWay s.tasks) (λ b. b.number == number) s.broadcasts known.sound.under_way) is in
+    some_case (Gives s) (slice_get broadcast.waiting 0) _ _ (n, range) (λ task at.
     some_case (Gives s) (task_of s task) _ _ (n, range) (λ owner found.
     some_case (Gives s) (numbered s.creds owner.current) _ _ (n, range) (λ old there.
     let cred = is_found s owner.current old range.creds there in
-    followed s cast task owner old (set_id old.cred cast.call) known (All-at IsNumber cast.waiting 0 task at fits.2)
-    (waiting_few cast.waiting way.rising fits.2) (call_made_fits old.cred cast.call cred.cred fits.1)))))
+    followed s broadcast task owner old (set_id old.cred broadcast.call) known (All-at IsNumber broadcast.waiting 0 task at fits.2)
+    (waiting_few broadcast.waiting way.rising fits.2) (call_made_fits old.cred broadcast.call cred.cred fits.1)))))
 
 of_raw : (s : State) (task : ℕ) (call : IdCall) → IsKnown s → IsNumber task → FitsCall call → Gives s (by_raw s task call)
 of_raw s task call known t fits =
@@ -233,7 +233,7 @@ of_raw s task call known t fits =
     some_case (Gives s) (task_of s task) _ _ (t, range) (λ owner is.
     some_case (Gives s) (numbered s.creds owner.current) _ _ (t, range) (λ old at.
     let found = is_found s owner.current old range.creds at in
-    idle s (cast_in s owner.process) _ (find_each FitsCast (λ b. b.process == owner.process) s.casts range.casts) range
+    idle s (broadcast_in s owner.process) _ (find_each FitsBroadcast (λ b. b.process == owner.process) s.broadcasts range.broadcasts) range
     (own s owner _ (owner_fits s task owner range is) range
     (by_rule_gives s (set_id old.cred call) _ range (call_made_fits old.cred call found.cred fits) (λ made h.
     in_slots Good s table_full
@@ -247,7 +247,7 @@ of_raw s task call known t fits =
       record {
         creds = with_cred s.creds made slot range.creds h free.below;
         tasks = current_fits s.tasks task (length s.creds) range.tasks;
-        casts = range.casts;
+        broadcasts = range.broadcasts;
         prepared = range.prepared;
       },
     )))))))
@@ -278,7 +278,7 @@ of_spawn s task child known t c =
     let range = known.range in
     some_case (Gives s) (task_of s task) _ _ (t, range) (λ owner is.
     some_case (Gives s) (numbered s.creds owner.current) _ _ (t, range) (λ parent at.
-    idle s (begun_by s task) _ (find_each FitsCast (λ b. b.caller == task) s.casts range.casts) range
+    idle s (begun_by s task) _ (find_each FitsBroadcast (λ b. b.caller == task) s.broadcasts range.broadcasts) range
     (none_case (Gives s) (task_of s child) _ _ (c, range) (λ new.
     own s owner _ (owner_fits s task owner range is) range
     (test_case (Gives s) (nat_lt (length s.tasks) TASKS) _ _ (tt, range) (
@@ -286,7 +286,7 @@ of_spawn s task child known t c =
       record {
         creds = range.creds;
         tasks = one_task s.tasks child owner.process parent.number range.tasks c;
-        casts = joined_fit task child s.casts c range.casts;
+        broadcasts = joined_fit task child s.broadcasts c range.broadcasts;
         prepared = range.prepared;
       },
     ))))))
@@ -296,7 +296,7 @@ of_fork s task child process known t c p =
     let range = known.range in
     some_case (Gives s) (task_of s task) _ _ (t, range) (λ owner is.
     some_case (Gives s) (numbered s.creds owner.current) _ _ (t, range) (λ parent at.
-    idle s (begun_by s task) _ (find_each FitsCast (λ b. b.caller == task) s.casts range.casts) range
+    idle s (begun_by s task) _ (find_each FitsBroadcast (λ b. b.caller == task) s.broadcasts range.broadcasts) range
     (none_case (Gives s) (task_of s child) _ _ (c, range) (λ new.
     none_case (Gives s) (find (is_thread_of process) s.tasks) _ _ (p, range) (λ unused.
     own s owner _ (owner_fits s task owner range is) range
@@ -305,7 +305,7 @@ of_fork s task child process known t c p =
       record {
         creds = range.creds;
         tasks = one_task s.tasks child process parent.number range.tasks c;
-        casts = range.casts;
+        broadcasts = range.broadcasts;
         prepared = range.prepared;
       },
     )))))))
@@ -314,13 +314,13 @@ of_exit : (s : State) (task : ℕ) → IsKnown s → IsNumber task → Gives s (
 of_exit s task known t =
     let range = known.range in
     some_case (Gives s) (task_of s task) _ _ (t, range) (λ owner is.
-    idle s (begun_by s task) _ (find_each FitsCast (λ b. b.caller == task) s.casts range.casts) range
+    idle s (begun_by s task) _ (find_each FitsBroadcast (λ b. b.caller == task) s.broadcasts range.broadcasts) range
     (own s owner _ (owner_fits s task owner range is) range (
       tt,
       record {
         creds = range.creds;
         tasks = survivors_fit (is_task task) s.tasks range.tasks;
-        casts = left_fit task s.casts range.casts;
+        broadcasts = left_fit task s.broadcasts range.broadcasts;
         prepared = range.prepared;
       },
     )))

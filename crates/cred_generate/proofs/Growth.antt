@@ -34,7 +34,7 @@ use Rattle.cred_event.specs.declared.event.Query.TheVariants as query
 use Rattle.cred_event.specs.declared.event.Side.{Side}
 use Rattle.cred_event.specs.Answers.{is_ok}
 use Rattle.cred_model.specs.Answers.{refusal, flag, checked, reply}
-use Rattle.cred_model.specs.Casts.{others_of, with_cast, waits_no_more}
+use Rattle.cred_model.specs.Casts.{others_of, with_broadcast, waits_no_more}
 use Rattle.cred_model.specs.Change.{Made, by_rule, made_by_rule, made_by_execve, made_by_exec, by_change}
 use Rattle.cred_model.specs.Dumpable.{differs, renewed, flags_begun, flags_committed, flag_of_value}
 use Rattle.cred_model.specs.Ends.{ended, is_thread_of}
@@ -43,10 +43,10 @@ use Rattle.cred_model.specs.Moves.{preparing, altered, committed, given_up}
 use Rattle.cred_model.specs.Named.{query_files, change_files}
 use Rattle.cred_model.specs.Script.{Script, chain_of, root_of}
 use Rattle.cred_model.specs.Slots.{swept_if_full, free, least_free, swept}
-use Rattle.cred_model.specs.State.{State, SealedCred, Task, Numbered, Prepared, Changed, Broadcast, ProcessFlag, numbered, number_on, task_of, cast_of, cast_in}
+use Rattle.cred_model.specs.State.{State, SealedCred, Task, Numbered, Prepared, Changed, Broadcast, ProcessFlag, numbered, number_on, task_of, broadcast_of, broadcast_in}
 use Rattle.cred_model.specs.State.{begun_by, open_of, hold_of, prepared_of, credential_of, opener_of, held_by, info_of}
 use Rattle.cred_model.specs.Step.{done, outcome, by_init, take_hold, by_take, by_take_file, by_release, by_ask, by_signal, by_prepare, by_alter, for_task}
-use Rattle.cred_model.specs.Step.{try_commit, ends_with, casts_after, committed_by, commit_answer, by_commit, by_abort, for_access, override_held}
+use Rattle.cred_model.specs.Step.{try_commit, ends_with, broadcasts_after, committed_by, commit_answer, by_commit, by_abort, for_access, override_held}
 use Rattle.cred_model.specs.Step.{override_prepared, by_override, by_revert, by_begin, aborted, follow, by_act, by_open, by_close, by_spawn, by_fork, by_exit}
 use Rattle.cred_model.specs.Step.{by_dumpable, by_dumped, by_ptrace, by_file, by_stat, by_raw}
 use Rattle.cred_model.proofs.Numbers.{numbered_is, sealed_cred_of}
@@ -122,7 +122,7 @@ long s t is = ap (λ (creds : List SealedCred). length creds) is
 
 of_init : (s : State) (task process user group ns root : ℕ) → Tells s (by_init s task process user group ns root)
 of_init s task process user group ns root =
-    idle_case (Tells s) (cast_in s process) _ (λ number. refl) (λ idle.
+    idle_case (Tells s) (broadcast_in s process) _ (λ number. refl) (λ idle.
     none_case (Tells s) (task_of s task) _ _ refl (λ new.
     test_case (Tells s) (nat_lt (length s.tasks) TASKS) _ _ refl
     (slot_counts s table_full
@@ -243,7 +243,7 @@ of_alter script s label to =
 -- a commit's answer names the next number, whatever the change was
 committed_counts : (to : Change) (gains : Gains) (s t : State) (slot count : ℕ) (owner : Task) (flags : List ProcessFlag) (new : SealedCred)
     → t.creds ≡ s.creds ++ new ∷ []
-    → Counts s (committed_by to gains (length s.creds) slot count, record (casts_after to owner t) { dumpable = flags })
+    → Counts s (committed_by to gains (length s.creds) slot count, record (broadcasts_after to owner t) { dumpable = flags })
 committed_counts (change.Exec file) gains s t slot count owner flags new is = rw is (next_counts s.creds new)
 committed_counts (change.SetFs kind id) gains s t slot count owner flags new is = rw is (next_counts s.creds new)
 committed_counts (change.Adjust call) gains s t slot count owner flags new is = rw is (next_counts s.creds new)
@@ -254,7 +254,7 @@ tried s place p owner last =
     let ends = ends_with last.change owner in
     elim (owner.current == p.base) as (λ b. Counts s (cond b (
       commit_answer last (length s.creds) p.slot (count_by ends s.tasks),
-      record (casts_after last.change owner (committed (ended ends s) place p owner.current last.cred)) { dumpable = flags_committed s owner last },
+      record (broadcasts_after last.change owner (committed (ended ends s) place p owner.current last.cred)) { dumpable = flags_committed s owner last },
     )
     (answer.Stale p.base owner.current, given_up s place p))) [
       | true ↦ committed_counts last.change last.gains s (committed (ended ends s) place p owner.current last.cred) p.slot (count_by ends s.tasks) owner
@@ -300,37 +300,37 @@ of_begin : (s : State) (line task : ℕ) (call : IdCall) → Tells s (by_begin s
 of_begin s line task call =
     some_case (Tells s) (task_of s task) _ _ refl (λ owner is.
     some_case (Tells s) (numbered s.creds owner.current) _ _ refl (λ old is.
-    idle_case (Tells s) (cast_in s owner.process) _ (λ number. refl) (λ idle.
-    none_case (Tells s) (cast_of s line) _ _ refl (λ new.
+    idle_case (Tells s) (broadcast_in s owner.process) _ (λ number. refl) (λ idle.
+    none_case (Tells s) (broadcast_of s line) _ _ refl (λ new.
     own_case (Tells s) owner _ (λ depth. refl)
     (rule_case (Tells s) (set_id old.cred call) _ (silent_refusal s) (λ made is.
     let others = others_of owner s.tasks in
-    let cast : Broadcast = record { number = line; process = owner.process; caller = task; call = call; waiting = others } in
+    let broadcast : Broadcast = record { number = line; process = owner.process; caller = task; call = call; waiting = others } in
     slot_counts s table_full
     (λ t slot. (
       answer.Began (length t.creds) slot (length others),
-      record (replaced t task old.number made slot) { casts = with_cast t.casts cast; dumpable = renewed t.dumpable owner.process (differs old.cred made) },
+      record (replaced t task old.number made slot) { broadcasts = with_broadcast t.broadcasts broadcast; dumpable = renewed t.dumpable owner.process (differs old.cred made) },
     ))
     (λ t is. long s t is) (λ t slot is. next_of s t.creds (record { cred = made; slot = slot }) is)))))))
 
-followed : (s : State) (cast : Broadcast) (task : ℕ) (owner : Task) (old : Numbered) (r : Result Credential Answer) → Counts s (follow s cast task owner old r)
-followed s cast task owner old (Err refused) = refl
-followed s cast task owner old (Ok made) =
+followed : (s : State) (broadcast : Broadcast) (task : ℕ) (owner : Task) (old : Numbered) (r : Result Credential Answer) → Counts s (follow s broadcast task owner old r)
+followed s broadcast task owner old (Err refused) = refl
+followed s broadcast task owner old (Ok made) =
     slot_counts s
-    (λ t. (answer.Aborted task cause.Full, aborted cast t))
+    (λ t. (answer.Aborted task cause.Full, aborted broadcast t))
     (λ t slot. (
-      answer.Acted task (length t.creds) slot (length cast.waiting - 1),
-      record (replaced t task old.number made slot) { casts = waits_no_more task t.casts; dumpable = renewed t.dumpable owner.process (differs old.cred made) },
+      answer.Acted task (length t.creds) slot (length broadcast.waiting - 1),
+      record (replaced t task old.number made slot) { broadcasts = waits_no_more task t.broadcasts; dumpable = renewed t.dumpable owner.process (differs old.cred made) },
     ))
     (λ t is. long s t is) (λ t slot is. next_of s t.creds (record { cred = made; slot = slot }) is)
 
 of_act : (s : State) (number : ℕ) → Tells s (by_act s number)
 of_act s number =
-    some_case (Tells s) (cast_of s number) _ _ refl (λ cast is.
-    some_case (Tells s) (slice_get cast.waiting 0) _ _ refl (λ task is.
+    some_case (Tells s) (broadcast_of s number) _ _ refl (λ broadcast is.
+    some_case (Tells s) (slice_get broadcast.waiting 0) _ _ refl (λ task is.
     some_case (Tells s) (task_of s task) _ _ refl (λ owner is.
     some_case (Tells s) (numbered s.creds owner.current) _ _ refl (λ old is.
-    followed s cast task owner old (by_rule (set_id old.cred cast.call))))))
+    followed s broadcast task owner old (by_rule (set_id old.cred broadcast.call))))))
 
 of_open : (s : State) (hold place : ℕ) (asked : Want) (fd : ℕ) → Tells s (by_open s hold place asked fd)
 of_open s hold place asked fd =
@@ -406,7 +406,7 @@ of_raw : (s : State) (task : ℕ) (call : IdCall) → Tells s (by_raw s task cal
 of_raw s task call =
     some_case (Tells s) (task_of s task) _ _ refl (λ owner is.
     some_case (Tells s) (numbered s.creds owner.current) _ _ refl (λ old is.
-    idle_case (Tells s) (cast_in s owner.process) _ (λ number. refl) (λ idle.
+    idle_case (Tells s) (broadcast_in s owner.process) _ (λ number. refl) (λ idle.
     own_case (Tells s) owner _ (λ depth. refl)
     (rule_case (Tells s) (set_id old.cred call) _ (silent_refusal s) (λ made ruled.
     slot_counts s table_full

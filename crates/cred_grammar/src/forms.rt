@@ -137,7 +137,7 @@ pub fn event_of(
         }),
         EventName::Begin => begin_of(alloc, words),
         EventName::Act => Ok(Event::Act {
-            cast: one::<LineNumber>(words)?,
+            broadcast: one::<LineNumber>(words)?,
         }),
         EventName::Sweep => {
             no_words(words)?;

@@ -12,7 +12,7 @@ use Rattle.cred_event.specs.declared.answer.Answer.TheVariants.{Began}
 use Rattle.cred_event.specs.declared.entry.Entry.{Entry}
 use Rattle.cred_event.specs.declared.event.Event.TheVariants.{Begin, Act}
 use Rattle.cred_model.specs.Script.{Script}
-use Rattle.cred_model.specs.State.{State, Task, Broadcast, Numbered, cast_in, current_of}
+use Rattle.cred_model.specs.State.{State, Task, Broadcast, Numbered, broadcast_in, current_of}
 use Rattle.cred_model.specs.Casts.{is_open}
 use Rattle.cred_model.specs.Journal.{IsAnswered}
 use Rattle.cred_model.specs.Step.{step}
@@ -114,18 +114,18 @@ module _ (script : Script) (journal : List Entry) (answered : IsAnswered script 
   -- ---- in between
 
   record Hand (i : ℕ) : Type 0 where
-    cast : Broadcast
-    is : cast_in (At i) process ≡ Some cast
-    has : cast.number ≡ number
-    calls : cast.call ≡ call
-    followed : Followed P (At i).creds (At i).tasks process cast.waiting
+    broadcast : Broadcast
+    is : broadcast_in (At i) process ≡ Some broadcast
+    has : broadcast.number ≡ number
+    calls : broadcast.call ≡ call
+    followed : Followed P (At i).creds (At i).tasks process broadcast.waiting
 
   -- an own step in that broadcast
-  own_step : (i : ℕ) (entry : Entry) (cast : Broadcast) → from ≤ i → i ≤ upto → slice_get journal i ≡ Some entry → cast.number ≡ number
-      → cast.call ≡ call → OwnStep P (At i) entry.event (step script (At i) entry.line entry.event).0 cast
-  own_step i entry cast after before is has calls n task cred slot left old new acts answer opened current ruled =
-      let there = (found (λ (b : Broadcast). Unit {0}) (λ b. b.number == n) (At i).casts cast opened (λ k d lt. tt)).1 in
-      let same : n ≡ number = sym (eqb-true cast.number n there) ∙ has in
+  own_step : (i : ℕ) (entry : Entry) (broadcast : Broadcast) → from ≤ i → i ≤ upto → slice_get journal i ≡ Some entry → broadcast.number ≡ number
+      → broadcast.call ≡ call → OwnStep P (At i) entry.event (step script (At i) entry.line entry.event).0 broadcast
+  own_step i entry broadcast after before is has calls n task cred slot left old new acts answer opened current ruled =
+      let there = (found (λ (b : Broadcast). Unit {0}) (λ b. b.number == n) (At i).broadcasts broadcast opened (λ k d lt. tt)).1 in
+      let same : n ≡ number = sym (eqb-true broadcast.number n there) ∙ has in
       let test : (n == number) ≡ true = grind (arith, nat_tests) in
       let steps_is : stepping number entry.line entry.event entry.answer ≡ Some task
       = ap (λ event. stepping number entry.line event entry.answer) acts
@@ -134,18 +134,18 @@ module _ (script : Script) (journal : List Entry) (answered : IsAnswered script 
       made_alike old.cred new (alike_at i entry task old after before is steps_is current)
       (ap (set_id old.cred) (sym calls) ∙ ruled)
 
-  opened_at : (i : ℕ) → from < i → i ≤ upto → (cast : Broadcast) × (cast_in (At i) process ≡ Some cast) × (cast.number ≡ number)
-  opened_at i after before = mapped (λ (b : Broadcast). b.number) (cast_in (At i) process) number (run.goes_on i after before)
+  opened_at : (i : ℕ) → from < i → i ≤ upto → (broadcast : Broadcast) × (broadcast_in (At i) process ≡ Some broadcast) × (broadcast.number ≡ number)
+  opened_at i after before = mapped (λ (b : Broadcast). b.number) (broadcast_in (At i) process) number (run.goes_on i after before)
 
   first_hand : from + 1 ≤ upto → Hand (from + 1)
   first_hand within =
       let there = opened_at (from + 1) (omega arith) within in
       let new = begun begins.number begins.owner call (At from).tasks in
-      let is : found_in begins.owner.process After_first.casts ≡ Some there.0
-      = ap (λ p. found_in p After_first.casts) own ∙ ap (λ (s : State). cast_in s process) (sym after_first) ∙ there.1 in
+      let is : found_in begins.owner.process After_first.broadcasts ≡ Some there.0
+      = ap (λ p. found_in p After_first.broadcasts) own ∙ ap (λ (s : State). broadcast_in s process) (sym after_first) ∙ there.1 in
       let same : there.0 ≡ new = shown_is new there.0 (sym (begun_shown (At from) After_first run.task call begins) ∙ is) in
       record {
-        cast = there.0;
+        broadcast = there.0;
         is = there.1;
         has = there.2;
         calls = ap (λ (b : Broadcast). b.call) same;
@@ -163,15 +163,15 @@ module _ (script : Script) (journal : List Entry) (answered : IsAnswered script 
       let made = step script (At i) entry.line entry.event in
       let there = opened_at (i + 1) (omega arith) within in
       let next : At (i + 1) ≡ made.1 = step_at script journal i entry at.1 in
-      let is : cast_in made.1 process ≡ Some there.0 = ap (λ (s : State). cast_in s process) (sym next) ∙ there.1 in
-      elim (goes P kept script (At i) entry.event made process hand.cast (sound i) (are i) hand.is hand.followed
-      (own_step i entry hand.cast (omega arith) (omega arith) at.1 hand.has hand.calls)
+      let is : broadcast_in made.1 process ≡ Some there.0 = ap (λ (s : State). broadcast_in s process) (sym next) ∙ there.1 in
+      elim (goes P kept script (At i) entry.event made process hand.broadcast (sound i) (are i) hand.is hand.followed
+      (own_step i entry hand.broadcast (omega arith) (omega arith) at.1 hand.has hand.calls)
       (changes script (At i) entry.line entry.event).tasks (step_extends script (At i) entry.line entry.event)) [
         | Waits waiting each open_now ↦
-            let one = record hand.cast { waiting = waiting } in
+            let one = record hand.broadcast { waiting = waiting } in
             let same : there.0 ≡ one = shown_is one there.0 (sym open_now ∙ is) in
             record {
-              cast = there.0;
+              broadcast = there.0;
               is = there.1;
               has = there.2;
               calls = ap (λ (b : Broadcast). b.call) same ∙ hand.calls;
@@ -221,21 +221,21 @@ module _ (script : Script) (journal : List Entry) (answered : IsAnswered script 
         | inl more ↦
             let hand = hand_last more in
             completed P kept script (At upto) run.last.line process call (sound upto) (are upto) event
-            (λ cast is same.
-            let both : Some cast ≡ Some hand.cast = sym is ∙ hand.is in
-            let one : cast ≡ hand.cast = cc in (
+            (λ broadcast is same.
+            let both : Some broadcast ≡ Some hand.broadcast = sym is ∙ hand.is in
+            let one : broadcast ≡ hand.broadcast = cc in (
               subst (λ (c : Broadcast). Followed P (At upto).creds (At upto).tasks process c.waiting) (sym one) hand.followed,
-              own_step upto run.last cast run.order (omega arith) run.ends (ap (λ (c : Broadcast). c.number) one ∙ hand.has) same,
+              own_step upto run.last broadcast run.order (omega arith) run.ends (ap (λ (c : Broadcast). c.number) one ∙ hand.has) same,
             ))
             (λ task called is same b here. absurd (
-            let both : None ≡ Some hand.cast = sym b.idle ∙ ap (cast_in (At upto)) here ∙ hand.is in cc))
+            let both : None ≡ Some hand.broadcast = sym b.idle ∙ ap (broadcast_in (At upto)) here ∙ hand.is in cc))
             completes
         | inr not_more ↦
             let order = run.order in
             let same : upto ≡ from = omega arith in
             completed P kept script (At upto) run.last.line process call (sound upto) (are upto) event
-            (λ cast is called. absurd (
-            let both : None ≡ Some cast = sym begins.idle ∙ ap (cast_in (At from)) own ∙ ap (λ i. cast_in (At i) process) (sym same) ∙ is in cc))
+            (λ broadcast is called. absurd (
+            let both : None ≡ Some broadcast = sym begins.idle ∙ ap (broadcast_in (At from)) own ∙ ap (λ i. broadcast_in (At i) process) (sym same) ∙ is in cc))
             (λ task called is is_call b here. first_last same task called is is_call b)
             completes
       ]

@@ -14,9 +14,9 @@ use Rattle.cred_event.specs.declared.answer.Answer.TheVariants.{Began, Acted, Ab
 use Rattle.cred_event.specs.declared.answer.AbortCause.TheVariants as cause
 use Rattle.cred_event.specs.declared.event.Event.TheVariants.{Begin, Act}
 use Rattle.cred_model.specs.Script.{Script}
-use Rattle.cred_model.specs.State.{State, Task, Broadcast, Numbered, numbered, task_of, cast_of, cast_in, current_of}
+use Rattle.cred_model.specs.State.{State, Task, Broadcast, Numbered, numbered, task_of, broadcast_of, broadcast_in, current_of}
 use Rattle.cred_model.specs.Answers.{refusal}
-use Rattle.cred_model.specs.Casts.{others_of, with_cast, waits_no_more}
+use Rattle.cred_model.specs.Casts.{others_of, with_broadcast, waits_no_more}
 use Rattle.cred_model.specs.Change.{by_rule}
 use Rattle.cred_model.specs.Ends.{is_beside}
 use Rattle.cred_model.specs.Dumpable.{differs, renewed}
@@ -44,10 +44,10 @@ pub record Begun (s : State) (task : ℕ) (call : IdCall) (t : State) : Type 0 w
   pub lives : task_of s task ≡ Some owner
   pub has : current_of s task ≡ Some old
   pub ruled : set_id old.cred call ≡ Ok new
-  pub idle : cast_in s owner.process ≡ None
+  pub idle : broadcast_in s owner.process ≡ None
   pub tasks : t.tasks ≡ with_current s.tasks task (length s.creds)
   pub creds : t.creds ≡ s.creds ++ sealed_cred new slot ∷ []
-  pub casts : t.casts ≡ with_cast s.casts (begun number owner call s.tasks)
+  pub broadcasts : t.broadcasts ≡ with_broadcast s.broadcasts (begun number owner call s.tasks)
 
 -- each that passes the test stands, by its number, among those that do
 any_passed : {X : Type 0} (f : X → ℕ) (p : X → Bool) (xs : List X)
@@ -101,9 +101,9 @@ begun_followed P s t task call b holds =
 
 -- the broadcast that is open then
 pub begun_shown : (s t : State) (task : ℕ) (call : IdCall) (b : Begun s task call t)
-    → found_in b.owner.process t.casts ≡ shown (begun b.number b.owner call s.tasks)
+    → found_in b.owner.process t.broadcasts ≡ shown (begun b.number b.owner call s.tasks)
 begun_shown s t task call b =
-    ap (found_in b.owner.process) b.casts ∙ begun_open s.casts (begun b.number b.owner call s.tasks) b.idle
+    ap (found_in b.owner.process) b.broadcasts ∙ begun_open s.broadcasts (begun b.number b.owner call s.tasks) b.idle
 
 -- an event that answers that a broadcast began did begin one
 refusal_begins : (denial : Denial) (cred slot left : ℕ) → refusal denial ≡ Began cred slot left → ⊥
@@ -122,8 +122,8 @@ begin_case script s line task call cred at left =
     = λ r. answer_of r ≡ Began cred at left → BeganSo s task call left (outcome s r).1 in
     some_case Q (task_of s task) _ _ (λ answered. cc)
     (λ owner lives. some_case Q (numbered s.creds owner.current) _ _ (λ answered. cc)
-    (λ old now. idle_case Q (cast_in s owner.process) _ (λ number answered. cc)
-    (λ idle. none_case Q (cast_of s line) _ _ (λ answered. cc)
+    (λ old now. idle_case Q (broadcast_in s owner.process) _ (λ number answered. cc)
+    (λ idle. none_case Q (broadcast_of s line) _ _ (λ answered. cc)
     (λ unused. own_case Q owner _ (λ depth answered. cc)
     (rule_case Q (set_id old.cred call) _ (λ denial answered. absurd (refusal_begins denial cred at left answered))
     (λ new ruled.
@@ -132,7 +132,7 @@ begin_case script s line task call cred at left =
     in_slots (λ made. Q (Ok made)) s table_full
     (λ s slot. (
       Began (length s.creds) slot (length others),
-      record (replaced s task old.number new slot) { casts = with_cast s.casts (by task); dumpable = renewed s.dumpable owner.process (differs old.cred new) },
+      record (replaced s task old.number new slot) { broadcasts = with_broadcast s.broadcasts (by task); dumpable = renewed s.dumpable owner.process (differs old.cred new) },
     ))
     (λ gone fewer answered. cc)
     (λ gone slot fewer free answered.
@@ -149,7 +149,7 @@ begin_case script s line task call cred at left =
         idle = idle;
         tasks = refl;
         creds = refl;
-        casts = ap (λ caller. with_cast s.casts (by caller)) (sym (owner_number s task owner lives));
+        broadcasts = ap (λ caller. with_broadcast s.broadcasts (by caller)) (sym (owner_number s task owner lives));
       };
       few = cc;
     })))))))
@@ -171,54 +171,54 @@ last_waits task (x ∷ []) first few =
     ap (λ b. cond (not b) (x ∷ []) []) test
 last_waits task (x ∷ y ∷ rest) first few = absurd (omega arith)
 
-closed_by : (s : State) (process : ℕ) (cast : Broadcast) (task : ℕ) → IsSound s → cast_in s process ≡ Some cast
-    → slice_get cast.waiting 0 ≡ Some task → length cast.waiting - 1 ≡ 0 → found_in process (waits_no_more task s.casts) ≡ None
-closed_by s process cast task sound is first few =
-    left_open task process s.casts cast sound.processes is
-    ∙ ap (λ w. cond (not (length w == 0)) (Some (record cast { waiting = w })) None) (last_waits task cast.waiting first few)
+closed_by : (s : State) (process : ℕ) (broadcast : Broadcast) (task : ℕ) → IsSound s → broadcast_in s process ≡ Some broadcast
+    → slice_get broadcast.waiting 0 ≡ Some task → length broadcast.waiting - 1 ≡ 0 → found_in process (waits_no_more task s.broadcasts) ≡ None
+closed_by s process broadcast task sound is first few =
+    left_open task process s.broadcasts broadcast sound.processes is
+    ∙ ap (λ w. cond (not (length w == 0)) (Some (record broadcast { waiting = w })) None) (last_waits task broadcast.waiting first few)
 
-follow_closes : (s : State) (process : ℕ) (cast : Broadcast) (task : ℕ) (owner : Task) (old : Numbered) (made : Result Credential Answer) → IsSound s
-    → cast_in s process ≡ Some cast → slice_get cast.waiting 0 ≡ Some task → (who cred slot left : ℕ) → left ≡ 0
-    → (follow s cast task owner old made).0 ≡ Acted who cred slot left → found_in process (follow s cast task owner old made).1.casts ≡ None
-follow_closes s process cast task owner old (Err refused) sound is first who cred slot left none answered = cc
-follow_closes s process cast task owner old (Ok new) sound is first who cred slot left none answered =
-    in_slots (λ made. made.0 ≡ Acted who cred slot left → found_in process made.1.casts ≡ None) s
-    (λ now. (Aborted task cause.Full, aborted cast now))
+follow_closes : (s : State) (process : ℕ) (broadcast : Broadcast) (task : ℕ) (owner : Task) (old : Numbered) (made : Result Credential Answer) → IsSound s
+    → broadcast_in s process ≡ Some broadcast → slice_get broadcast.waiting 0 ≡ Some task → (who cred slot left : ℕ) → left ≡ 0
+    → (follow s broadcast task owner old made).0 ≡ Acted who cred slot left → found_in process (follow s broadcast task owner old made).1.broadcasts ≡ None
+follow_closes s process broadcast task owner old (Err refused) sound is first who cred slot left none answered = cc
+follow_closes s process broadcast task owner old (Ok new) sound is first who cred slot left none answered =
+    in_slots (λ made. made.0 ≡ Acted who cred slot left → found_in process made.1.broadcasts ≡ None) s
+    (λ now. (Aborted task cause.Full, aborted broadcast now))
     (λ now slot. (
-      Acted task (length now.creds) slot (length cast.waiting - 1),
+      Acted task (length now.creds) slot (length broadcast.waiting - 1),
       record (replaced now task old.number new slot) {
-        casts = waits_no_more task now.casts;
+        broadcasts = waits_no_more task now.broadcasts;
         dumpable = renewed now.dumpable owner.process
             (differs old.cred new);
       },
     ))
     (λ gone fewer answered. cc)
     (λ gone at fewer free answered.
-    let few : length cast.waiting - 1 ≡ left = cc in
-    closed_by s process cast task sound is first (few ∙ none)) answered
+    let few : length broadcast.waiting - 1 ≡ left = cc in
+    closed_by s process broadcast task sound is first (few ∙ none)) answered
 
 -- an act that answers that none is left closes the broadcast
-act_case : (script : Script) (s : State) (line number process : ℕ) (cast : Broadcast) (who cred slot left : ℕ) → IsSound s
-    → cast_of s number ≡ Some cast → cast_in s process ≡ Some cast → left ≡ 0
+act_case : (script : Script) (s : State) (line number process : ℕ) (broadcast : Broadcast) (who cred slot left : ℕ) → IsSound s
+    → broadcast_of s number ≡ Some broadcast → broadcast_in s process ≡ Some broadcast → left ≡ 0
     → answer_of (done script s line (Act number)) ≡ Acted who cred slot left
-    → found_in process (outcome s (done script s line (Act number))).1.casts ≡ None
-act_case script s line number process cast who cred slot left sound opened is none =
+    → found_in process (outcome s (done script s line (Act number))).1.broadcasts ≡ None
+act_case script s line number process broadcast who cred slot left sound opened is none =
     let Q : Result (Answer × State) Answer → Type 0
-    = λ r. answer_of r ≡ Acted who cred slot left → found_in process (outcome s r).1.casts ≡ None in
-    some_case Q (cast_of s number) _ _ (λ answered. cc)
-    (λ in_cast there.
-    let both : Some cast ≡ Some in_cast = sym opened ∙ there in
-    let same : cast ≡ in_cast = cc in
-    some_case Q (slice_get in_cast.waiting 0) _ _ (λ answered. cc)
+    = λ r. answer_of r ≡ Acted who cred slot left → found_in process (outcome s r).1.broadcasts ≡ None in
+    some_case Q (broadcast_of s number) _ _ (λ answered. cc)
+    (λ in_broadcast there.
+    let both : Some broadcast ≡ Some in_broadcast = sym opened ∙ there in
+    let same : broadcast ≡ in_broadcast = cc in
+    some_case Q (slice_get in_broadcast.waiting 0) _ _ (λ answered. cc)
     (λ task first. some_case Q (task_of s task) _ _ (λ answered. cc)
     (λ owner lives. some_case Q (numbered s.creds owner.current) _ _ (λ answered. cc)
     (λ old now.
-    follow_closes s process in_cast task owner old (by_rule (set_id old.cred in_cast.call)) sound (is ∙ ap Some same) first who cred slot left none))))
+    follow_closes s process in_broadcast task owner old (by_rule (set_id old.cred in_broadcast.call)) sound (is ∙ ap Some same) first who cred slot left none))))
 
-pub acted_closes : (script : Script) (s : State) (line number process : ℕ) (cast : Broadcast) (who cred slot left : ℕ) → IsSound s
-    → cast_of s number ≡ Some cast → cast_in s process ≡ Some cast → left ≡ 0
+pub acted_closes : (script : Script) (s : State) (line number process : ℕ) (broadcast : Broadcast) (who cred slot left : ℕ) → IsSound s
+    → broadcast_of s number ≡ Some broadcast → broadcast_in s process ≡ Some broadcast → left ≡ 0
     → (step script s line (Act number)).0 ≡ Acted who cred slot left
-    → found_in process (step script s line (Act number)).1.casts ≡ None
-acted_closes script s line number process cast who cred slot left sound opened is none answered =
-    act_case script s line number process cast who cred slot left sound opened is none
+    → found_in process (step script s line (Act number)).1.broadcasts ≡ None
+acted_closes script s line number process broadcast who cred slot left sound opened is none answered =
+    act_case script s line number process broadcast who cred slot left sound opened is none
     (sym (answers_settled s (done script s line (Act number))) ∙ answered)

@@ -34,7 +34,7 @@ module _ (Q : Result (Answer × State) Answer → Type 0) where
   pub idle_case : (found : Option Broadcast) (f : Unit {0} → Result (Answer × State) Answer) → ((number : ℕ) → Q (Err (Busy number)))
       → (found ≡ None → Q (f tt)) → Q (not_busy found >>= f)
   idle_case None f none each = each refl
-  idle_case (Some cast) f none each = none cast.number
+  idle_case (Some broadcast) f none each = none broadcast.number
 
   pub rule_case : (r : Result Credential Denial) (f : Credential → Result (Answer × State) Answer)
       → ((denial : Denial) → Q (Err (refusal denial))) → ((c : Credential) → r ≡ Ok c → Q (f c)) → Q (by_rule r >>= f)

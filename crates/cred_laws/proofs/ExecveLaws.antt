@@ -27,7 +27,7 @@ use Rattle.cred_model.specs.Casts.{dropped}
 use Rattle.cred_model.specs.Ends.{is_beside, survivors, ended}
 use Rattle.cred_model.specs.Dumpable.{flags_committed}
 use Rattle.cred_model.specs.Moves.{updated, with_current, committed, given_up}
-use Rattle.cred_model.specs.Step.{committed_by, commit_answer, ends_with, casts_after, try_commit, for_task, outcome, by_commit, done, step}
+use Rattle.cred_model.specs.Step.{committed_by, commit_answer, ends_with, broadcasts_after, try_commit, for_task, outcome, by_commit, done, step}
 use Rattle.cred_model.proofs.Lists.{All-at, at_place, slice_get_at}
 use Rattle.cred_model.proofs.Numbers.{numbered_last, updated_as, updated_task}
 use Rattle.cred_sound.specs.Sound.{IsSound}
@@ -110,12 +110,12 @@ module _ (script : Script) (From : ℕ → Change → Option File → Type 0) (s
   abbrev Q : Result (Answer × State) Answer → Type 0
   Q r = answer_of r ≡ Executed number slot count gains → Found (outcome s r).1
 
-  fresh : (casts : List Broadcast) (flags : List ProcessFlag) (place file : ℕ) (p : Prepared) (owner : Task) (last : Changed)
+  fresh : (broadcasts : List Broadcast) (flags : List ProcessFlag) (place file : ℕ) (p : Prepared) (owner : Task) (last : Changed)
       → position (λ p. p.label == label) s.prepared ≡ Some place
       → slice_get s.prepared place ≡ Some p → p.changed ≡ Some last → task_of s p.task ≡ Some owner → owner.current ≡ p.base
       → last.change ≡ Exec file → number ≡ length s.creds → slot ≡ p.slot → gains ≡ last.gains
-      → Found (record (committed (ended (is_beside owner) s) place p owner.current last.cred) { casts = casts; dumpable = flags })
-  fresh casts flags place file p owner last at is changed lives same executes at_number at_slot at_gains =
+      → Found (record (committed (ended (is_beside owner) s) place p owner.current last.cred) { broadcasts = broadcasts; dumpable = flags })
+  fresh broadcasts flags place file p owner last at is changed lives same executes at_number at_slot at_gains =
       let labelled : (p.label == label) ≡ true
       = at_place (λ (p : Prepared). p.label == label) s.prepared place p is (position-Some (λ (p : Prepared). p.label == label) s.prepared place p at).1 in
       let own : p.label ≡ label = eqb-true p.label label labelled in
@@ -162,12 +162,12 @@ module _ (script : Script) (From : ℕ → Change → Option File → Type 0) (s
       → slice_get s.prepared place ≡ Some p → p.changed ≡ Some last → task_of s p.task ≡ Some owner → owner.current ≡ p.base
       → (change : Change) → last.change ≡ change
       → committed_by change last.gains (length s.creds) p.slot (count_by (ends_with change owner) s.tasks) ≡ Executed number slot count gains
-      → Found (record (casts_after change owner (committed (ended (ends_with change owner) s) place p owner.current last.cred)) { dumpable = flags })
+      → Found (record (broadcasts_after change owner (committed (ended (ends_with change owner) s) place p owner.current last.cred)) { dumpable = flags })
   by_kind flags place p owner last at is changed lives same (Exec file) executes answered =
       let at_number : number ≡ length s.creds = cc in
       let at_slot : slot ≡ p.slot = cc in
       let at_gains : gains ≡ last.gains = cc in
-      fresh (dropped owner.process s.casts) flags place file p owner last at is changed lives same executes at_number at_slot at_gains
+      fresh (dropped owner.process s.broadcasts) flags place file p owner last at is changed lives same executes at_number at_slot at_gains
   by_kind flags place p owner last at is changed lives same other executes answered = cc
 
   settles : (place : ℕ) (p : Prepared) (owner : Task) (last : Changed) → position (λ p. p.label == label) s.prepared ≡ Some place
@@ -176,7 +176,7 @@ module _ (script : Script) (From : ℕ → Change → Option File → Type 0) (s
   settles place p owner last at is changed lives =
       let ends = ends_with last.change owner in
       let flags = flags_committed s owner last in
-      let now = casts_after last.change owner (committed (ended ends s) place p owner.current last.cred) in
+      let now = broadcasts_after last.change owner (committed (ended ends s) place p owner.current last.cred) in
       let fresh_one : Answer × State = (commit_answer last (length s.creds) p.slot (count_by ends s.tasks), record now { dumpable = flags }) in
       elim (owner.current == p.base) as (λ b. (b ≡ true → owner.current ≡ p.base) → Q (Ok (cond {A = Answer × State} b fresh_one (Stale p.base owner.current, given_up s place p)))) [
         | true ↦ λ same answered. by_kind flags place p owner last at is changed lives (same refl) last.change refl answered

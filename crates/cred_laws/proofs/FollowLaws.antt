@@ -11,7 +11,7 @@ use Rattle.std.proofs.lemmas.Bool.{cond_both, eqb-false, eqb-true}
 use Rattle.cred_ids.specs.Ordered.{in_order}
 use Rattle.cred_record.specs.Credential.{Credential}
 use Rattle.cred_model.specs.State.{SealedCred, Task, Broadcast}
-use Rattle.cred_model.specs.Casts.{waits_in, is_open, with_cast, without_waiter, waits_no_more, with_child, joined, dropped}
+use Rattle.cred_model.specs.Casts.{waits_in, is_open, with_broadcast, without_waiter, waits_no_more, with_child, joined, dropped}
 use Rattle.cred_model.specs.Moves.{updated, with_current}
 use Rattle.cred_model.proofs.Lists.{Differ, find-map, found, found_none, none_found, or_left}
 use Rattle.cred_model.proofs.Numbers.{numbered_stays}
@@ -70,18 +70,18 @@ still_without task left waiting other still = sym (any_without task left waiting
 
 -- ---- a child
 
-waits_more : (child : ℕ) (cast : Broadcast) (task : ℕ)
-    → waits task (in_order (cast.waiting ++ child ∷ [])) ≡ (waits task cast.waiting || ((child == task) || false))
-waits_more child cast task =
-    any-in_order (λ n. n == task) (cast.waiting ++ child ∷ []) ∙ list_any-append (λ n. n == task) cast.waiting (child ∷ [])
+waits_more : (child : ℕ) (broadcast : Broadcast) (task : ℕ)
+    → waits task (in_order (broadcast.waiting ++ child ∷ [])) ≡ (waits task broadcast.waiting || ((child == task) || false))
+waits_more child broadcast task =
+    any-in_order (λ n. n == task) (broadcast.waiting ++ child ∷ []) ∙ list_any-append (λ n. n == task) broadcast.waiting (child ∷ [])
 
 -- who doesn't wait beside the child didn't wait before
-pub still_with : (parent child : ℕ) (cast : Broadcast) (task : ℕ) → waits task (with_child parent child cast).waiting ≡ false
-    → waits task cast.waiting ≡ false
-still_with parent child cast task =
-    cond_both (waits_in parent cast) (record cast { waiting = in_order (cast.waiting ++ child ∷ []) }) cast
-    (λ (c : Broadcast). waits task c.waiting ≡ false → waits task cast.waiting ≡ false)
-    (λ is still. or_left (waits task cast.waiting) _ (sym (waits_more child cast task) ∙ still))
+pub still_with : (parent child : ℕ) (broadcast : Broadcast) (task : ℕ) → waits task (with_child parent child broadcast).waiting ≡ false
+    → waits task broadcast.waiting ≡ false
+still_with parent child broadcast task =
+    cond_both (waits_in parent broadcast) (record broadcast { waiting = in_order (broadcast.waiting ++ child ∷ []) }) broadcast
+    (λ (c : Broadcast). waits task c.waiting ≡ false → waits task broadcast.waiting ≡ false)
+    (λ is still. or_left (waits task broadcast.waiting) _ (sym (waits_more child broadcast task) ∙ still))
     (λ other still. still)
 
 no_waits : (a b : Bool) → (a || (b || false)) ≡ false → b ≡ true → ⊥
@@ -90,35 +90,35 @@ no_waits false true none here = let no : true ≡ false = none in cc
 no_waits false false none here = cc
 
 -- a child that doesn't wait has a parent that doesn't
-pub parent_with : (parent child : ℕ) (cast : Broadcast) → waits child (with_child parent child cast).waiting ≡ false
-    → waits parent cast.waiting ≡ false
-parent_with parent child cast =
-    cond_both (waits_in parent cast) (record cast { waiting = in_order (cast.waiting ++ child ∷ []) }) cast
-    (λ (c : Broadcast). waits child c.waiting ≡ false → waits parent cast.waiting ≡ false)
-    (λ is still. absurd (no_waits (waits child cast.waiting) (child == child) (sym (waits_more child cast child) ∙ still) (grind (arith, nat_tests))))
+pub parent_with : (parent child : ℕ) (broadcast : Broadcast) → waits child (with_child parent child broadcast).waiting ≡ false
+    → waits parent broadcast.waiting ≡ false
+parent_with parent child broadcast =
+    cond_both (waits_in parent broadcast) (record broadcast { waiting = in_order (broadcast.waiting ++ child ∷ []) }) broadcast
+    (λ (c : Broadcast). waits child c.waiting ≡ false → waits parent broadcast.waiting ≡ false)
+    (λ is still. absurd (no_waits (waits child broadcast.waiting) (child == child) (sym (waits_more child broadcast child) ∙ still) (grind (arith, nat_tests))))
     (λ other still. other)
 
 -- ---- which broadcast is open in a process
 
 abbrev pub found_in : ℕ → List Broadcast → Option Broadcast
-found_in process casts = find (λ b. b.process == process) casts
+found_in process broadcasts = find (λ b. b.process == process) broadcasts
 
 -- a broadcast, if anybody waits in it
 abbrev pub shown : Broadcast → Option Broadcast
-shown cast = cond (is_open cast) (Some cast) None
+shown broadcast = cond (is_open broadcast) (Some broadcast) None
 
 -- what is found is the one that was, changed, if it is left
-find_left : (test : Broadcast → Bool) (g : Broadcast → Broadcast) (casts : List Broadcast) (process : ℕ) (cast : Broadcast)
-    → ((c : Broadcast) → (g c).process ≡ c.process) → AllPairs (Differ (λ (c : Broadcast). c.process)) casts
-    → found_in process casts ≡ Some cast → found_in process (filter test (map g casts)) ≡ cond (test (g cast)) (Some (g cast)) None
-find_left test g [] process cast same differ is = cc
-find_left test g (x ∷ xs) process cast same differ is =
+find_left : (test : Broadcast → Bool) (g : Broadcast → Broadcast) (broadcasts : List Broadcast) (process : ℕ) (broadcast : Broadcast)
+    → ((c : Broadcast) → (g c).process ≡ c.process) → AllPairs (Differ (λ (c : Broadcast). c.process)) broadcasts
+    → found_in process broadcasts ≡ Some broadcast → found_in process (filter test (map g broadcasts)) ≡ cond (test (g broadcast)) (Some (g broadcast)) None
+find_left test g [] process broadcast same differ is = cc
+find_left test g (x ∷ xs) process broadcast same differ is =
     let Is : Broadcast → Bool = λ b. b.process == process in
     let later = filter test (map g xs) in
-    let goal : Broadcast → Type 0 = λ cast. find Is (cond (test (g x)) (g x ∷ later) later) ≡ cond (test (g cast)) (Some (g cast)) None in
-    elim (x.process == process) as (λ b. (x.process == process) ≡ b → cond b (Some x) (found_in process xs) ≡ Some cast → goal cast) [
+    let goal : Broadcast → Type 0 = λ broadcast. find Is (cond (test (g x)) (g x ∷ later) later) ≡ cond (test (g broadcast)) (Some (g broadcast)) None in
+    elim (x.process == process) as (λ b. (x.process == process) ≡ b → cond b (Some x) (found_in process xs) ≡ Some broadcast → goal broadcast) [
       | true ↦ λ here found.
-          let one : x ≡ cast = cc in
+          let one : x ≡ broadcast = cc in
           let p : x.process ≡ process = eqb-true x.process process here in
           let others = AllPairs-head (Differ (λ (c : Broadcast). c.process)) x xs differ in
           let none : find Is later ≡ None
@@ -135,100 +135,100 @@ find_left test g (x ∷ xs) process cast same differ is =
             | false ↦ none
           ])
       | false ↦ λ other found.
-          let rest = find_left test g xs process cast same (AllPairs-tail (Differ (λ (c : Broadcast). c.process)) x xs differ) found in
+          let rest = find_left test g xs process broadcast same (AllPairs-tail (Differ (λ (c : Broadcast). c.process)) x xs differ) found in
           let there : Is (g x) ≡ false = ap (λ n. n == process) (same x) ∙ other in
-          elim (test (g x)) as (λ b. find Is (cond b (g x ∷ later) later) ≡ cond (test (g cast)) (Some (g cast)) None) [
+          elim (test (g x)) as (λ b. find Is (cond b (g x ∷ later) later) ≡ cond (test (g broadcast)) (Some (g broadcast)) None) [
             | true ↦ ap (λ b. cond b (Some (g x)) (find Is later)) there ∙ rest
             | false ↦ rest
           ]
     ] refl is
 
-pub left_open : (task process : ℕ) (casts : List Broadcast) (cast : Broadcast)
-    → AllPairs (Differ (λ (c : Broadcast). c.process)) casts → found_in process casts ≡ Some cast
-    → found_in process (waits_no_more task casts) ≡ shown (without_waiter task cast)
-left_open task process casts cast differ is = find_left is_open (without_waiter task) casts process cast (λ c. refl) differ is
+pub left_open : (task process : ℕ) (broadcasts : List Broadcast) (broadcast : Broadcast)
+    → AllPairs (Differ (λ (c : Broadcast). c.process)) broadcasts → found_in process broadcasts ≡ Some broadcast
+    → found_in process (waits_no_more task broadcasts) ≡ shown (without_waiter task broadcast)
+left_open task process broadcasts broadcast differ is = find_left is_open (without_waiter task) broadcasts process broadcast (λ c. refl) differ is
 
 with_child-process : (parent child : ℕ) (c : Broadcast) → (with_child parent child c).process ≡ c.process
 with_child-process parent child c =
     cond_both (waits_in parent c) (record c { waiting = in_order (c.waiting ++ child ∷ []) }) c
     (λ (r : Broadcast). r.process ≡ c.process) (λ is. refl) (λ other. refl)
 
-pub joined_open : (parent child process : ℕ) (casts : List Broadcast) (cast : Broadcast) → found_in process casts ≡ Some cast
-    → found_in process (joined parent child casts) ≡ Some (with_child parent child cast)
-joined_open parent child process casts cast is =
-    find-map (λ b. b.process == process) (with_child parent child) casts
+pub joined_open : (parent child process : ℕ) (broadcasts : List Broadcast) (broadcast : Broadcast) → found_in process broadcasts ≡ Some broadcast
+    → found_in process (joined parent child broadcasts) ≡ Some (with_child parent child broadcast)
+joined_open parent child process broadcasts broadcast is =
+    find-map (λ b. b.process == process) (with_child parent child) broadcasts
     (λ c. ap (λ n. n == process) (with_child-process parent child c))
     ∙ ap (option_map (with_child parent child)) is
 
-pub begun_beside : (process : ℕ) (casts : List Broadcast) (new cast : Broadcast) → found_in process casts ≡ Some cast
-    → found_in process (with_cast casts new) ≡ Some cast
-begun_beside process casts new cast is =
-    find-append (λ (b : Broadcast). b.process == process) casts (filter is_open (new ∷ []))
+pub begun_beside : (process : ℕ) (broadcasts : List Broadcast) (new broadcast : Broadcast) → found_in process broadcasts ≡ Some broadcast
+    → found_in process (with_broadcast broadcasts new) ≡ Some broadcast
+begun_beside process broadcasts new broadcast is =
+    find-append (λ (b : Broadcast). b.process == process) broadcasts (filter is_open (new ∷ []))
     ∙ ap (λ o. option_or o (found_in process (filter is_open (new ∷ [])))) is
 
-pub dropped_beside : (process other : ℕ) (casts : List Broadcast) (cast : Broadcast) → process ≢ other → found_in process casts ≡ Some cast
-    → found_in process (dropped other casts) ≡ Some cast
-dropped_beside process other casts cast differ is =
-    let of = eqb-true cast.process process (found (λ (c : Broadcast). Unit {0}) (λ c. c.process == process) casts cast is (λ k d lt. tt)).1 in
-    let apart : cast.process ≢ other = λ same. differ (sym of ∙ same) in
-    find-filter (λ b. b.process == process) (λ c. not (c.process == other)) casts cast is (grind (arith, nat_tests))
+pub dropped_beside : (process other : ℕ) (broadcasts : List Broadcast) (broadcast : Broadcast) → process ≢ other → found_in process broadcasts ≡ Some broadcast
+    → found_in process (dropped other broadcasts) ≡ Some broadcast
+dropped_beside process other broadcasts broadcast differ is =
+    let of = eqb-true broadcast.process process (found (λ (c : Broadcast). Unit {0}) (λ c. c.process == process) broadcasts broadcast is (λ k d lt. tt)).1 in
+    let apart : broadcast.process ≢ other = λ same. differ (sym of ∙ same) in
+    find-filter (λ b. b.process == process) (λ c. not (c.process == other)) broadcasts broadcast is (grind (arith, nat_tests))
 
 -- none is open after the one of the process is dropped
-pub dropped_none : (process : ℕ) (casts : List Broadcast) → found_in process (dropped process casts) ≡ None
+pub dropped_none : (process : ℕ) (broadcasts : List Broadcast) → found_in process (dropped process broadcasts) ≡ None
 dropped_none process [] = refl
-dropped_none process (c ∷ casts) =
-    elim (c.process == process) as (λ b. (c.process == process) ≡ b → found_in process (cond (not b) (c ∷ dropped process casts) (dropped process casts)) ≡ None) [
-      | true ↦ λ is. dropped_none process casts
-      | false ↦ λ other. ap (λ b. cond b (Some c) (found_in process (dropped process casts))) other ∙ dropped_none process casts
+dropped_none process (c ∷ broadcasts) =
+    elim (c.process == process) as (λ b. (c.process == process) ≡ b → found_in process (cond (not b) (c ∷ dropped process broadcasts) (dropped process broadcasts)) ≡ None) [
+      | true ↦ λ is. dropped_none process broadcasts
+      | false ↦ λ other. ap (λ b. cond b (Some c) (found_in process (dropped process broadcasts))) other ∙ dropped_none process broadcasts
     ] refl
 
 -- where none was open, none is opened
 
-none_left : (test : Broadcast → Bool) (g : Broadcast → Broadcast) (casts : List Broadcast) (process : ℕ)
-    → ((c : Broadcast) → (g c).process ≡ c.process) → found_in process casts ≡ None → found_in process (filter test (map g casts)) ≡ None
-none_left test g casts process same none =
+none_left : (test : Broadcast → Bool) (g : Broadcast → Broadcast) (broadcasts : List Broadcast) (process : ℕ)
+    → ((c : Broadcast) → (g c).process ≡ c.process) → found_in process broadcasts ≡ None → found_in process (filter test (map g broadcasts)) ≡ None
+none_left test g broadcasts process same none =
     let Is : Broadcast → Bool = λ b. b.process == process in
-    none_found Is (filter test (map g casts))
-    (All-filter test (λ c. Is c ≡ false) (map g casts)
-    (All-map (λ c. Is c ≡ false) g casts
-    (All-weaker (λ c. Is c ≡ false) (λ c. Is (g c) ≡ false) (λ c other. ap (λ n. n == process) (same c) ∙ other) casts
-    (found_none Is casts none))))
+    none_found Is (filter test (map g broadcasts))
+    (All-filter test (λ c. Is c ≡ false) (map g broadcasts)
+    (All-map (λ c. Is c ≡ false) g broadcasts
+    (All-weaker (λ c. Is c ≡ false) (λ c. Is (g c) ≡ false) (λ c other. ap (λ n. n == process) (same c) ∙ other) broadcasts
+    (found_none Is broadcasts none))))
 
-pub left_none : (task process : ℕ) (casts : List Broadcast) → found_in process casts ≡ None
-    → found_in process (waits_no_more task casts) ≡ None
-left_none task process casts none = none_left is_open (without_waiter task) casts process (λ c. refl) none
+pub left_none : (task process : ℕ) (broadcasts : List Broadcast) → found_in process broadcasts ≡ None
+    → found_in process (waits_no_more task broadcasts) ≡ None
+left_none task process broadcasts none = none_left is_open (without_waiter task) broadcasts process (λ c. refl) none
 
-pub joined_none : (parent child process : ℕ) (casts : List Broadcast) → found_in process casts ≡ None
-    → found_in process (joined parent child casts) ≡ None
-joined_none parent child process casts none =
-    find-map (λ b. b.process == process) (with_child parent child) casts
+pub joined_none : (parent child process : ℕ) (broadcasts : List Broadcast) → found_in process broadcasts ≡ None
+    → found_in process (joined parent child broadcasts) ≡ None
+joined_none parent child process broadcasts none =
+    find-map (λ b. b.process == process) (with_child parent child) broadcasts
     (λ c. ap (λ n. n == process) (with_child-process parent child c))
     ∙ ap (option_map (with_child parent child)) none
 
-pub dropped_still : (process other : ℕ) (casts : List Broadcast) → found_in process casts ≡ None
-    → found_in process (dropped other casts) ≡ None
-dropped_still process other casts none =
+pub dropped_still : (process other : ℕ) (broadcasts : List Broadcast) → found_in process broadcasts ≡ None
+    → found_in process (dropped other broadcasts) ≡ None
+dropped_still process other broadcasts none =
     let Is : Broadcast → Bool = λ b. b.process == process in
-    none_found Is (dropped other casts)
-    (All-filter (λ c. not (c.process == other)) (λ c. Is c ≡ false) casts (found_none Is casts none))
+    none_found Is (dropped other broadcasts)
+    (All-filter (λ c. not (c.process == other)) (λ c. Is c ≡ false) broadcasts (found_none Is broadcasts none))
 
 -- the one that begins
-pub begun_open : (casts : List Broadcast) (new : Broadcast) → found_in new.process casts ≡ None
-    → found_in new.process (with_cast casts new) ≡ shown new
-begun_open casts new none =
+pub begun_open : (broadcasts : List Broadcast) (new : Broadcast) → found_in new.process broadcasts ≡ None
+    → found_in new.process (with_broadcast broadcasts new) ≡ shown new
+begun_open broadcasts new none =
     let here : (new.process == new.process) ≡ true = grind (arith, nat_tests) in
-    find-append (λ (b : Broadcast). b.process == new.process) casts (filter is_open (new ∷ []))
+    find-append (λ (b : Broadcast). b.process == new.process) broadcasts (filter is_open (new ∷ []))
     ∙ ap (λ o. option_or o (found_in new.process (filter is_open (new ∷ [])))) none
     ∙ elim (is_open new) as (λ b. found_in new.process (cond b (new ∷ []) []) ≡ cond b (Some new) None) [
       | true ↦ ap (λ b. cond b (Some new) None) here
       | false ↦ refl
     ]
 
-pub begun_none : (process : ℕ) (casts : List Broadcast) (new : Broadcast) → new.process ≢ process → found_in process casts ≡ None
-    → found_in process (with_cast casts new) ≡ None
-begun_none process casts new other none =
+pub begun_none : (process : ℕ) (broadcasts : List Broadcast) (new : Broadcast) → new.process ≢ process → found_in process broadcasts ≡ None
+    → found_in process (with_broadcast broadcasts new) ≡ None
+begun_none process broadcasts new other none =
     let test : (new.process == process) ≡ false = grind (arith, nat_tests) in
-    find-append (λ (b : Broadcast). b.process == process) casts (filter is_open (new ∷ []))
+    find-append (λ (b : Broadcast). b.process == process) broadcasts (filter is_open (new ∷ []))
     ∙ ap (λ o. option_or o (found_in process (filter is_open (new ∷ [])))) none
     ∙ elim (is_open new) as (λ b. found_in process (cond b (new ∷ []) []) ≡ None) [
       | true ↦ ap (λ b. cond b (Some new) None) test

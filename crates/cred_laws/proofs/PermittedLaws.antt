@@ -109,13 +109,13 @@ called_gains s task old before call c current is ruled =
 caused_gains : (script : Script) (s : State) (event : Event) (task : ℕ) (owner : Task) (ends : Task → Bool) (old : Numbered) (c : Credential)
     (made : Answer × State) → AreMade script s → current_of s task ≡ Some old → owner.current ≡ old.number
     → Cause s event task owner ends c made → less c.perm old.cred.perm ≡ gain_told made.0
-caused_gains script s event task owner ends old c made are current number (ByBegin call before line slot by is ruled unused idle none casts answered flags) =
+caused_gains script s event task owner ends old c made are current number (ByBegin call before line slot by is ruled unused idle none broadcasts answered flags) =
     called_gains s task old before call c current is ruled ∙ ap gain_told (sym answered)
-caused_gains script s event task owner ends old c made are current number (ByAct line slot cast before by opened first is ruled none casts answered flags) =
-    called_gains s task old before cast.call c current is ruled ∙ ap gain_told (sym answered)
-caused_gains script s event task owner ends old c made are current number (ByRaw call before slot by is ruled idle none casts answered flags) =
+caused_gains script s event task owner ends old c made are current number (ByAct line slot broadcast before by opened first is ruled none broadcasts answered flags) =
+    called_gains s task old before broadcast.call c current is ruled ∙ ap gain_told (sym answered)
+caused_gains script s event task owner ends old c made are current number (ByRaw call before slot by is ruled idle none broadcasts answered flags) =
     called_gains s task old before call c current is ruled ∙ ap gain_told (sym answered)
-caused_gains script s event task owner ends old c made are current number (ByCommit label place slot count p last by first is own changed same cred ending casts answered flags) =
+caused_gains script s event task owner ends old c made are current number (ByCommit label place slot count p last by first is own changed same cred ending broadcasts answered flags) =
     let one = All-at (IsMade script s.creds) s.prepared place p is are in
     let so = subst (λ o. IfSome o (IsChangedFrom script (numbered s.creds p.base))) changed one in
     let base : numbered s.creds p.base ≡ Some old = ap (numbered s.creds) (sym same ∙ number) ∙ under_number s task old current in
@@ -175,13 +175,13 @@ owner_current s acting owner old found current =
 pub goes_by : (script : Script) (s : State) (event : Event) (left : List ℕ) (made : Answer × State) (task : ℕ) (before after : Numbered)
     → IsSound s → CredsChange s event left made.1 → TasksChange script s event made → current_of s task ≡ Some before
     → current_of made.1 task ≡ Some after → Goes s event made task before after
-goes_by script s event left made task before after sound creds (SameTasks same casts flags) is now =
+goes_by script s event left made task before after sound creds (SameTasks same broadcasts flags) is now =
     inl (same_one made.1 task before after
     (ap (λ tasks. current_in tasks made.1.creds task) same ∙ still_with s event left made.1 task before creds is) now)
-goes_by script s event left made task before after sound creds (SetsFlag acting value owner flag on found known same casts flags) is now =
+goes_by script s event left made task before after sound creds (SetsFlag acting value owner flag on found known same broadcasts flags) is now =
     inl (same_one made.1 task before after
     (ap (λ tasks. current_in tasks made.1.creds task) same ∙ still_with s event left made.1 task before creds is) now)
-goes_by script s event left made task before after sound creds (Creates new process user group ns slot by tasks sealed fresh idle casts flags) is now =
+goes_by script s event left made task before after sound creds (Creates new process user group ns slot by tasks sealed fresh idle broadcasts flags) is now =
     inl (same_one made.1 task before after
     (ap (λ tasks. current_in tasks made.1.creds task) tasks
     ∙ still_before s _ made.1.creds task before (still_with s event left made.1 task before creds is)) now)
@@ -207,7 +207,7 @@ goes_by script s event left made task before after sound creds (Renews acting sl
     (owner_number s task t here) found cause is
     (ap (λ (t : Task). numbered s.creds t.current) (sym one) ∙ at_owner s task before at is)
     alive.2
-goes_by script s event left made task before after sound creds (Overrides acting numbers tasks refer casts flags) is now =
+goes_by script s event left made task before after sound creds (Overrides acting numbers tasks refer broadcasts flags) is now =
     inl (same_one made.1 task before after
     (ap (λ tasks. current_in tasks made.1.creds task) tasks
     ∙ acts_same s.tasks made.1.creds acting numbers task
@@ -271,18 +271,18 @@ child_at s parent child process task shared c false test current now = cc
 
 created_with : (script : Script) (s : State) (event : Event) (parent child process task : ℕ) (c : Numbered) (made : Answer × State)
     → Creation s event parent child process made → (child ≡ task) × (current_of s parent ≡ Some c) → IsCreatedWith script s event task c
-created_with script s event parent child process task c made (BySpawn owner is found own casts flags) with =
+created_with script s event parent child process task c made (BySpawn owner is found own broadcasts flags) with =
     subst (λ e. IsCreatedWith script s e task c) (sym is) with
-created_with script s event parent child process task c made (ByFork by is known unused casts flags) with =
+created_with script s event parent child process task c made (ByFork by is known unused broadcasts flags) with =
     subst (λ e. IsCreatedWith script s e task c) (sym is) with
 
 created_by : (script : Script) (s : State) (event : Event) (made : Answer × State) (task : ℕ) (after : Numbered) → TasksChange script s event made
     → task_of s task ≡ None → current_of made.1 task ≡ Some after → IsCreatedWith script s event task after
-created_by script s event made task after (SameTasks same casts flags) none now =
+created_by script s event made task after (SameTasks same broadcasts flags) none now =
     absurd (nobody made.1.tasks made.1.creds task after (ap (find (λ (t : Task). t.number == task)) same ∙ none) now)
-created_by script s event made task after (SetsFlag acting value owner flag on found known same casts flags) none now =
+created_by script s event made task after (SetsFlag acting value owner flag on found known same broadcasts flags) none now =
     absurd (nobody made.1.tasks made.1.creds task after (ap (find (λ (t : Task). t.number == task)) same ∙ none) now)
-created_by script s event made task after (Creates number process user group ns slot by tasks creds fresh idle casts flags) none now =
+created_by script s event made task after (Creates number process user group ns slot by tasks creds fresh idle broadcasts flags) none now =
     let first = first_task number process (length s.creds) in
     let owner = find-append (λ (t : Task). t.number == task) s.tasks (first ∷ [])
     ∙ ap (λ o. option_or o (find (λ (t : Task). t.number == task) (first ∷ []))) none in
@@ -305,7 +305,7 @@ created_by script s event made task after (Renews acting slot owner c ends tasks
     absurd (nobody made.1.tasks made.1.creds task after
     (ap (find (λ (t : Task). t.number == task)) tasks ∙ updated_task (survivors ends s.tasks) acting (length s.creds) task
     ∙ ap (option_map (updated acting (length s.creds))) (find_no_survivor ends s.tasks task none)) now)
-created_by script s event made task after (Overrides acting numbers tasks refer casts flags) none now =
+created_by script s event made task after (Overrides acting numbers tasks refer broadcasts flags) none now =
     absurd (nobody made.1.tasks made.1.creds task after
     (ap (find (λ (t : Task). t.number == task)) tasks ∙ overriding_task s.tasks acting numbers task
     ∙ ap (option_map (overriding acting numbers)) none) now)

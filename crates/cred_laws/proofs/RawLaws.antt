@@ -13,7 +13,7 @@ use Rattle.cred_event.specs.declared.answer.Answer.{Answer}
 use Rattle.cred_event.specs.declared.answer.Answer.TheVariants.{Sealed}
 use Rattle.cred_event.specs.declared.event.Event.TheVariants.{Raw}
 use Rattle.cred_model.specs.Script.{Script}
-use Rattle.cred_model.specs.State.{State, SealedCred, Task, Numbered, numbered, task_of, cast_in, current_of}
+use Rattle.cred_model.specs.State.{State, SealedCred, Task, Numbered, numbered, task_of, broadcast_in, current_of}
 use Rattle.cred_model.specs.Answers.{refusal}
 use Rattle.cred_model.specs.Dumpable.{differs, renewed}
 use Rattle.cred_model.specs.Moves.{table_full, replaced, updated, with_current}
@@ -56,7 +56,7 @@ raw_leaves script s line task call other apart =
     let Q : Result (Answer × State) Answer → Type 0 = λ r. current_in (outcome s r).1.tasks other ≡ current_in s.tasks other in
     some_case Q (task_of s task) _ _ refl
     (λ owner lives. some_case Q (numbered s.creds owner.current) _ _ refl
-    (λ old now. idle_case Q (cast_in s owner.process) _ (λ number. refl)
+    (λ old now. idle_case Q (broadcast_in s owner.process) _ (λ number. refl)
     (λ idle. own_case Q owner _ (λ depth. refl)
     (rule_case Q (set_id old.cred call) _ (λ denial. refl)
     (λ new ruled.
@@ -95,7 +95,7 @@ raw_case script s line task call number slot =
     = λ r. answer_of r ≡ Sealed number slot → IsRaw s task call number slot (outcome s r).1 in
     some_case Q (task_of s task) _ _ (λ answered. cc)
     (λ owner lives. some_case Q (numbered s.creds owner.current) _ _ (λ answered. cc)
-    (λ old now. idle_case Q (cast_in s owner.process) _ (λ number answered. cc)
+    (λ old now. idle_case Q (broadcast_in s owner.process) _ (λ number answered. cc)
     (λ idle. own_case Q owner _ (λ depth answered. cc)
     (rule_case Q (set_id old.cred call) _ (λ denial answered. absurd (refusal_seals denial number slot answered))
     (λ new ruled.

@@ -293,22 +293,22 @@ committed_clear change gains flags process other is = ap (λ b. is_dumpable (ren
 cause_clears : (s : State) (event : Event) (task : ℕ) (owner : Task) (ends : Task → Bool) (c : Credential) (made : Answer × State) (before : Numbered)
     → task_of s task ≡ Some owner → current_of s task ≡ Some before → differs before.cred c ≡ true → Cause s event task owner ends c made
     → is_dumpable made.1.dumpable owner.process ≡ false
-cause_clears s event task owner ends c made before found is differ (ByBegin call old number slot begins has ruled new idle none casts answered flags) =
+cause_clears s event task owner ends c made before found is differ (ByBegin call old number slot begins has ruled new idle none broadcasts answered flags) =
     let one = one_found (current_of s task) before old is has in
     ap (λ fs. is_dumpable fs owner.process) flags
     ∙ ap (λ b. is_dumpable (renewed s.dumpable owner.process b) owner.process) (ap (λ (n : Numbered). differs n.cred c) (sym one) ∙ differ)
     ∙ set_clear s.dumpable owner.process
-cause_clears s event task owner ends c made before found is differ (ByAct number slot cast old acts opened first has ruled none casts answered flags) =
+cause_clears s event task owner ends c made before found is differ (ByAct number slot broadcast old acts opened first has ruled none broadcasts answered flags) =
     let one = one_found (current_of s task) before old is has in
     ap (λ fs. is_dumpable fs owner.process) flags
     ∙ ap (λ b. is_dumpable (renewed s.dumpable owner.process b) owner.process) (ap (λ (n : Numbered). differs n.cred c) (sym one) ∙ differ)
     ∙ set_clear s.dumpable owner.process
-cause_clears s event task owner ends c made before found is differ (ByRaw call old slot raws has ruled idle none casts answered flags) =
+cause_clears s event task owner ends c made before found is differ (ByRaw call old slot raws has ruled idle none broadcasts answered flags) =
     let one = one_found (current_of s task) before old is has in
     ap (λ fs. is_dumpable fs owner.process) flags
     ∙ ap (λ b. is_dumpable (renewed s.dumpable owner.process b) owner.process) (ap (λ (n : Numbered). differs n.cred c) (sym one) ∙ differ)
     ∙ set_clear s.dumpable owner.process
-cause_clears s event task owner ends c made before found is differ (ByCommit label place slot count p last commits first at own changed same cred ending casts answered flags) =
+cause_clears s event task owner ends c made before found is differ (ByCommit label place slot count p last commits first at own changed same cred ending broadcasts answered flags) =
     let here : numbered s.creds owner.current ≡ Some before = sym (ap (option_and_then (λ (t : Task). numbered s.creds t.current)) found) ∙ is in
     let other : differs_by s owner last ≡ true
     = ap (λ (o : Option Numbered). option_map_or (λ old. differs old.cred last.cred) o false) here
@@ -378,21 +378,21 @@ module _ (script : Script) (s : State) (line : ℕ) (event : Event) (process : �
 
   renews : (task : ℕ) (owner : Task) (ends : Task → Bool) (c : Credential) → task_of s task ≡ Some owner → Cause s event task owner ends c Made
       → is_dumpable Made.1.dumpable process ≡ false
-  renews task owner ends c found (ByBegin call old number slot begins has_old ruled new idle none casts answered flags) =
+  renews task owner ends c found (ByBegin call old number slot begins has_old ruled new idle none broadcasts answered flags) =
       ap (λ fs. is_dumpable fs process) flags ∙ renewed_stays s.dumpable owner.process process _ clear
-  renews task owner ends c found (ByAct number slot cast old acts opened first has_old ruled none casts answered flags) =
+  renews task owner ends c found (ByAct number slot broadcast old acts opened first has_old ruled none broadcasts answered flags) =
       ap (λ fs. is_dumpable fs process) flags ∙ renewed_stays s.dumpable owner.process process _ clear
-  renews task owner ends c found (ByRaw call old slot raws has_old ruled idle none casts answered flags) =
+  renews task owner ends c found (ByRaw call old slot raws has_old ruled idle none broadcasts answered flags) =
       ap (λ fs. is_dumpable fs process) flags ∙ renewed_stays s.dumpable owner.process process _ clear
-  renews task owner ends c found (ByCommit label place slot count p last commits first at own changed same cred ending casts answered flags) =
+  renews task owner ends c found (ByCommit label place slot count p last commits first at own changed same cred ending broadcasts answered flags) =
       ap (λ fs. is_dumpable fs process) flags
       ∙ committed_stays last.change last.gains s.dumpable owner.process process (differs_by s owner last) clear
       (λ file executed.
       executes label place slot count file p last owner commits (found_first s.prepared label place p first at) (ap (task_of s) own ∙ found) executed answered)
 
   creates : (task child other n : ℕ) → Creation s event task child other Made → is_dumpable Made.1.dumpable process ≡ false
-  creates task child other n (BySpawn owner is found of casts flags) = ap (λ fs. is_dumpable fs process) flags ∙ clear
-  creates task child other n (ByFork owner is found unused casts flags) =
+  creates task child other n (BySpawn owner is found of broadcasts flags) = ap (λ fs. is_dumpable fs process) flags ∙ clear
+  creates task child other n (ByFork owner is found unused broadcasts flags) =
       ap (λ fs. is_dumpable fs process) flags
       ∙ with_stays s.dumpable other process _ (has_other s.tasks process other has (ap is_some unused)) clear
 
@@ -412,20 +412,20 @@ module _ (script : Script) (s : State) (line : ℕ) (event : Event) (process : �
       ]
 
   stays : TasksChange script s event Made → is_dumpable Made.1.dumpable process ≡ false
-  stays (SameTasks same casts flags) = ap (λ fs. is_dumpable fs process) flags ∙ clear
-  stays (SetsFlag task value owner flag is found known same casts flags) =
+  stays (SameTasks same broadcasts flags) = ap (λ fs. is_dumpable fs process) flags ∙ clear
+  stays (SetsFlag task value owner flag is found known same broadcasts flags) =
       ap (λ fs. is_dumpable fs process) flags
       ∙ set_stays s.dumpable owner.process process flag
       (λ own.
       value_is value flag known
       (λ one. unasked (task, is ∙ ap (λ v. Dumpable task v) one, ap (option_map (λ (t : Task). t.process)) found ∙ ap Some own))) clear
-  stays (Creates task other user group ns slot is tasks creds new idle casts flags) = ap (λ fs. is_dumpable fs process) flags ∙ begins other
+  stays (Creates task other user group ns slot is tasks creds new idle broadcasts flags) = ap (λ fs. is_dumpable fs process) flags ∙ begins other
   stays (Shares task child other parent tasks creds current new creation) = creates task child other parent.number creation
   stays (Renews task slot owner c ends tasks creds found cause) = renews task owner ends c found cause
-  stays (Overrides task numbers tasks refer casts flags) = ap (λ fs. is_dumpable fs process) flags ∙ clear
-  stays (Fewer ends tasks creds (ByExit task owner is found ending idle casts flags)) = ap (λ fs. is_dumpable fs process) flags ∙ leaves owner
-  stays (Fewer ends tasks creds (ByAbort number task cause cast is ending casts answered flags)) =
-      ap (λ fs. is_dumpable fs process) flags ∙ gone_stays s.dumpable cast.process process clear
+  stays (Overrides task numbers tasks refer broadcasts flags) = ap (λ fs. is_dumpable fs process) flags ∙ clear
+  stays (Fewer ends tasks creds (ByExit task owner is found ending idle broadcasts flags)) = ap (λ fs. is_dumpable fs process) flags ∙ leaves owner
+  stays (Fewer ends tasks creds (ByAbort number task cause broadcast is ending broadcasts answered flags)) =
+      ap (λ fs. is_dumpable fs process) flags ∙ gone_stays s.dumpable broadcast.process process clear
 
 pub flag_stays_clear : FlagStaysClear
 flag_stays_clear script s line event process sound are has clear unasked unexecuted =

@@ -30,9 +30,9 @@ use Rattle.cred_event.specs.declared.event.Event.TheVariants.{SetAttr, Stat, Raw
 use Rattle.cred_event.specs.Answers.{is_ok}
 use Rattle.cred_model.specs.Script.{Script, chain_of, root_of, reaches}
 use Rattle.cred_model.specs.Named.{change_files}
-use Rattle.cred_model.specs.State.{State, Broadcast, Task, Numbered, numbered, task_of, cast_of, cast_in, begun_by, open_of, hold_of, prepared_of}
+use Rattle.cred_model.specs.State.{State, Broadcast, Task, Numbered, numbered, task_of, broadcast_of, broadcast_in, begun_by, open_of, hold_of, prepared_of}
 use Rattle.cred_model.specs.State.{credential_of, opener_of, held_by, info_of}
-use Rattle.cred_model.specs.Casts.{not_busy, others_of, with_cast, waits_no_more}
+use Rattle.cred_model.specs.Casts.{not_busy, others_of, with_broadcast, waits_no_more}
 use Rattle.cred_model.specs.Ends.{is_thread_of}
 use Rattle.cred_model.specs.Slots.{free, swept_if_full}
 use Rattle.cred_model.specs.Ptrace.{may_trace}
@@ -102,7 +102,7 @@ last_plain false answer refused t done plain = record { is = plain }
 
 idle_plain : (found : Option Broadcast) (f : Unit {0} → Result (Answer × State) Answer) → Plain (f tt) → Plain (not_busy found >>= f)
 idle_plain None f each = each
-idle_plain (Some cast) f each = record { is = refl }
+idle_plain (Some broadcast) f each = record { is = refl }
 
 slot_plain : (s : State) (full : State → Answer × State) (does : State → ℕ → Answer × State)
     → ((t : State) → is_executed (full t).0 ≡ false) → ((t : State) (slot : ℕ) → is_executed (does t slot).0 ≡ false)
@@ -193,14 +193,14 @@ hold_plain s label taken =
     none_plain (hold_of s label) _ _ refl
     (none_plain (prepared_of s label) _ _ refl (fewer_plain (length s.holds) HOLDS _ _ refl (at_once _ _ refl)))
 
-follow_plain : (s : State) (cast : Broadcast) (task : ℕ) (owner : Task) (old : Numbered) (made : Result Credential Answer)
-    → Plain (Ok (follow s cast task owner old made))
-follow_plain s cast task owner old (Err refused) = at_once _ _ refl
-follow_plain s cast task owner old (Ok new) =
-    slot_plain s (λ t. (answer.Aborted task cause.Full, aborted cast t))
+follow_plain : (s : State) (broadcast : Broadcast) (task : ℕ) (owner : Task) (old : Numbered) (made : Result Credential Answer)
+    → Plain (Ok (follow s broadcast task owner old made))
+follow_plain s broadcast task owner old (Err refused) = at_once _ _ refl
+follow_plain s broadcast task owner old (Ok new) =
+    slot_plain s (λ t. (answer.Aborted task cause.Full, aborted broadcast t))
     (λ t slot. (
-      answer.Acted task (length t.creds) slot (length cast.waiting - 1),
-      record (replaced t task old.number new slot) { casts = waits_no_more task t.casts; dumpable = renewed t.dumpable owner.process (differs old.cred new) },
+      answer.Acted task (length t.creds) slot (length broadcast.waiting - 1),
+      record (replaced t task old.number new slot) { broadcasts = waits_no_more task t.broadcasts; dumpable = renewed t.dumpable owner.process (differs old.cred new) },
     ))
     (λ t. refl) (λ t slot. refl)
 
@@ -217,7 +217,7 @@ file_plain_by s hold place rule =
 
 pub plain : (script : Script) (s : State) (line : ℕ) (event : Event) → commits event ≡ false → Plain (done script s line event)
 plain script s line (Init task process user group ns) other =
-    idle_plain (cast_in s process) _ (none_plain (task_of s task) _ _ refl (fewer_plain (length s.tasks) TASKS _ _ refl
+    idle_plain (broadcast_in s process) _ (none_plain (task_of s task) _ _ refl (fewer_plain (length s.tasks) TASKS _ _ refl
     (slot_plain s table_full
     (λ t slot. (
       answer.Sealed (length t.creds) slot,
@@ -272,24 +272,24 @@ plain script s line (Revert task) other =
 plain script s line (Begin task call) other =
     some_plain (task_of s task) _ _ refl
     (λ owner. some_plain (numbered s.creds owner.current) _ _ refl
-    (λ old. idle_plain (cast_in s owner.process) _ (none_plain (cast_of s line) _ _ refl
+    (λ old. idle_plain (broadcast_in s owner.process) _ (none_plain (broadcast_of s line) _ _ refl
     (own_plain owner _
     (rule_plain (set_id old.cred call) _
     (λ new.
     let others = others_of owner s.tasks in
-    let cast : Broadcast = record { number = line; process = owner.process; caller = task; call = call; waiting = others } in
+    let broadcast : Broadcast = record { number = line; process = owner.process; caller = task; call = call; waiting = others } in
     slot_plain s table_full
     (λ t slot. (
       answer.Began (length t.creds) slot (length others),
-      record (replaced t task old.number new slot) { casts = with_cast t.casts cast; dumpable = renewed t.dumpable owner.process (differs old.cred new) },
+      record (replaced t task old.number new slot) { broadcasts = with_broadcast t.broadcasts broadcast; dumpable = renewed t.dumpable owner.process (differs old.cred new) },
     ))
     (λ t. refl) (λ t slot. refl)))))))
 plain script s line (Act number) other =
-    some_plain (cast_of s number) _ _ refl
-    (λ cast. some_plain (slice_get cast.waiting 0) _ _ refl
+    some_plain (broadcast_of s number) _ _ refl
+    (λ broadcast. some_plain (slice_get broadcast.waiting 0) _ _ refl
     (λ task. some_plain (task_of s task) _ _ refl
     (λ owner. some_plain (numbered s.creds owner.current) _ _ refl
-    (λ old. follow_plain s cast task owner old (by_rule (set_id old.cred cast.call))))))
+    (λ old. follow_plain s broadcast task owner old (by_rule (set_id old.cred broadcast.call))))))
 plain script s line (OpenFile hold place asked fd) other =
     some_plain (held_by s hold) _ _ refl
     (λ held. none_plain (open_of s fd) _ _ refl
@@ -333,7 +333,7 @@ plain script s line (Stat hold place) other =
 plain script s line (Raw task call) other =
     some_plain (task_of s task) _ _ refl
     (λ owner. some_plain (numbered s.creds owner.current) _ _ refl
-    (λ old. idle_plain (cast_in s owner.process) _
+    (λ old. idle_plain (broadcast_in s owner.process) _
     (own_plain owner _
     (rule_plain (set_id old.cred call) _
     (λ new.

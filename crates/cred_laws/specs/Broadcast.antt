@@ -22,8 +22,9 @@ use Rattle.cred_event.specs.declared.answer.Answer.TheVariants.{Began, Acted}
 use Rattle.cred_event.specs.declared.event.Event.{Event}
 use Rattle.cred_event.specs.declared.event.Event.TheVariants.{Begin, Act, Exit}
 use Rattle.cred_model.specs.Script.{Script}
-use Rattle.cred_model.specs.State.{State, SealedCred, Task, Numbered, numbered, task_of, cast_of}
-use Rattle.cred_model.specs.State.{cast_in}
+use Rattle.cred_model.specs.State.{State, SealedCred, Task, Numbered, numbered, task_of}
+use Rattle.cred_model.specs.State.{broadcast_of}
+use Rattle.cred_model.specs.State.{broadcast_in}
 use Rattle.cred_model.specs.Casts.{waits_in}
 use Rattle.cred_model.specs.Step.{step}
 use Rattle.cred_sound.specs.Sound.{IsSound}
@@ -77,21 +78,21 @@ Completes before (Begin task made) (Began cred slot left) after process call =
     × (option_map (λ t. t.process) (task_of before task) ≡ Some process)
 Completes before (Act number) (Acted task cred slot left) after process call =
     (left ≡ 0)
-    × (option_map (λ b. b.process) (cast_of before number) ≡ Some process)
-    × (option_map (λ b. b.call) (cast_of before number) ≡ Some call)
+    × (option_map (λ b. b.process) (broadcast_of before number) ≡ Some process)
+    × (option_map (λ b. b.call) (broadcast_of before number) ≡ Some call)
 Completes before (Exit task) answer after process call =
-    (option_map (λ b. b.call) (cast_in before process) ≡ Some call)
-    × (cast_in after process ≡ None)
+    (option_map (λ b. b.call) (broadcast_in before process) ≡ Some call)
+    × (broadcast_in after process ≡ None)
 Completes before event answer after process call = ⊥
 
 -- In each open broadcast the threads of the process that don't wait have what its call names.
 abbrev pub AreFollowed : State → Type 0
 AreFollowed s =
     (process : ℕ)
-    → IfSome (cast_in s process) (λ cast.
+    → IfSome (broadcast_in s process) (λ broadcast.
     All (λ t.
-    t.process ≡ process → waits_in t.number cast ≡ false
-    → CurrentHas (HasNamed cast.call) s.creds t)
+    t.process ≡ process → waits_in t.number broadcast ≡ false
+    → CurrentHas (HasNamed broadcast.call) s.creds t)
     s.tasks)
 
 -- So it stays over each event,
@@ -138,6 +139,6 @@ pub record IsAlike (kind : Kind) (ids : List ℕ) (able : Bool) (c : Credential)
 abbrev pub stepping : ℕ → ℕ → Event → Answer → Option ℕ
 stepping number line (Begin task call) (Began cred slot left) =
     if line == number then Some task else None
-stepping number line (Act cast) (Acted task cred slot left) =
-    if cast == number then Some task else None
+stepping number line (Act broadcast) (Acted task cred slot left) =
+    if broadcast == number then Some task else None
 stepping number line event answer = None

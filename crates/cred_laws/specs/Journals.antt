@@ -18,7 +18,7 @@ use Rattle.cred_event.specs.declared.event.Event.TheVariants.{Raw}
 use Rattle.cred_event.specs.declared.event.Mode.{Mode}
 use Rattle.cred_event.specs.declared.entry.Entry.{Entry}
 use Rattle.cred_model.specs.Script.{Script}
-use Rattle.cred_model.specs.State.{State, Task, Prepared, Numbered, numbered, task_of, cast_in}
+use Rattle.cred_model.specs.State.{State, Task, Prepared, Numbered, numbered, task_of, broadcast_in}
 use Rattle.cred_model.specs.State.{current_of, opener_of, held_by, info_of}
 use Rattle.cred_model.specs.Named.{change_files}
 use Rattle.cred_model.specs.FileChanges.{changed_file}
@@ -210,7 +210,7 @@ pub record RunsThrough
   pub caller : option_map (λ t. t.process) (task_of (state_at script journal begun) task)
       ≡ Some process
   pub goes_on : (i : ℕ) → begun < i → i ≤ done
-      → option_map (λ b. b.number) (cast_in (state_at script journal i) process) ≡ Some number
+      → option_map (λ b. b.number) (broadcast_in (state_at script journal i) process) ≡ Some number
   pub ends : slice_get journal done ≡ Some last
   pub completes : Completes (state_at script journal done) last.event last.answer
       (state_at script journal (done + 1)) process call

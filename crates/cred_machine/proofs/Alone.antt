@@ -6,7 +6,7 @@ use Rattle.cred_record.specs.declared.refusal.Denial.TheVariants as denial
 use Rattle.cred_rules.specs.SetId.{set_id}
 use Rattle.cred_event.specs.declared.answer.Answer.{Answer}
 use Rattle.cred_event.specs.declared.answer.Answer.TheVariants.{Sealed, Eperm, Einval}
-use Rattle.cred_model.specs.State.{State, Task, Broadcast, ProcessFlag, Numbered, numbered, task_of, cast_in}
+use Rattle.cred_model.specs.State.{State, Task, Broadcast, ProcessFlag, Numbered, numbered, task_of, broadcast_in}
 use Rattle.cred_model.specs.Dumpable.{differs, renewed}
 use Rattle.cred_model.specs.Casts.{not_busy}
 use Rattle.cred_model.specs.Moves.{in_slot, not_overridden, replaced, table_full}
@@ -17,7 +17,7 @@ use Rattle.cred_machine.proofs.Leads.{idle_in}
 use Rattle.cred_machine.proofs.Rooms.{in_free}
 
 pub raw_busy : (s : State) (task : ℕ) (call : IdCall) (owner : Task) (old : Numbered) → task_of s task ≡ Some owner
-    → numbered s.creds owner.current ≡ Some old → (answer : Answer) → not_busy (cast_in s owner.process) ≡ Err answer
+    → numbered s.creds owner.current ≡ Some old → (answer : Answer) → not_busy (broadcast_in s owner.process) ≡ Err answer
     → outcome s (by_raw s task call) ≡ (answer, s)
 raw_busy s task call owner old lives has answer busy = rw (lives, has, busy) refl
 
@@ -25,13 +25,13 @@ raw_busy s task call owner old lives has answer busy = rw (lives, has, busy) ref
 pub record CanCall (s : State) (task : ℕ) (owner : Task) (old : Numbered) : Type 0 where
   pub lives : task_of s task ≡ Some owner
   pub has : numbered s.creds owner.current ≡ Some old
-  pub idle : not_busy (cast_in s owner.process) ≡ Ok tt
+  pub idle : not_busy (broadcast_in s owner.process) ≡ Ok tt
   pub own : not_overridden owner ≡ Ok tt
 
 -- by what was read
 pub can_call : (s : State) (task : ℕ) (owner whose : Task) (old : Numbered) (looked : List Broadcast)
     → Some whose ≡ task_of s task → owner ≡ whose → Some old ≡ numbered s.creds owner.current
-    → looked ≡ s.casts → not_busy (find (λ b. b.process == owner.process) looked) ≡ Ok tt
+    → looked ≡ s.broadcasts → not_busy (find (λ b. b.process == owner.process) looked) ≡ Ok tt
     → not_overridden whose ≡ Ok tt → CanCall s task owner old
 can_call s task owner whose old looked lives own has same idle unlent = record {
   lives = sym lives ∙ ap Some (sym own);

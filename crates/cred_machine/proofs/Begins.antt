@@ -13,9 +13,9 @@ use Rattle.cred_record.specs.declared.refusal.Refusal.TheVariants as refusal
 use Rattle.cred_rules.specs.SetId.{set_id}
 use Rattle.cred_event.specs.declared.answer.Answer.{Answer}
 use Rattle.cred_event.specs.declared.answer.Answer.TheVariants.{Began, Eperm, Einval}
-use Rattle.cred_model.specs.State.{State, Task, Broadcast, ProcessFlag, Numbered, numbered, task_of, cast_in}
+use Rattle.cred_model.specs.State.{State, Task, Broadcast, ProcessFlag, Numbered, numbered, task_of, broadcast_in}
 use Rattle.cred_model.specs.Dumpable.{differs, renewed}
-use Rattle.cred_model.specs.Casts.{not_busy, others_of, with_cast}
+use Rattle.cred_model.specs.Casts.{not_busy, others_of, with_broadcast}
 use Rattle.cred_model.specs.Moves.{in_slot, not_overridden, replaced, table_full}
 use Rattle.cred_model.specs.Slots.{free, least_free}
 use Rattle.cred_model.specs.Step.{by_begin, outcome}
@@ -42,15 +42,15 @@ rule_denied given refusal.Memory is (inr either) = cc
 
 pub begin_busy : (s : State) (line task : ℕ) (call : IdCall) (owner : Task) (old : Numbered) → task_of s task ≡ Some owner
     → numbered s.creds owner.current ≡ Some old
-    → (answer : Answer) → not_busy (cast_in s owner.process) ≡ Err answer → outcome s (by_begin s line task call) ≡ (answer, s)
+    → (answer : Answer) → not_busy (broadcast_in s owner.process) ≡ Err answer → outcome s (by_begin s line task call) ≡ (answer, s)
 begin_busy s line task call owner old lives has answer busy = rw (lives, has, busy) refl
 
 -- by what was read
 pub can_begin : {X : Type 0} (f : X → Broadcast) (s : State) (line task : ℕ) (owner whose : Task) (old : Numbered) (looked again : List Broadcast)
     (other : Option X) (exists : Bool)
     → Some whose ≡ task_of s task → owner ≡ whose → Some old ≡ numbered s.creds owner.current
-    → looked ≡ s.casts → not_busy (find (λ b. b.process == owner.process) looked) ≡ Ok tt
-    → again ≡ s.casts → option_map f other ≡ find (λ b. b.number == line) again → exists ≡ is_some other → exists ≡ false
+    → looked ≡ s.broadcasts → not_busy (find (λ b. b.process == owner.process) looked) ≡ Ok tt
+    → again ≡ s.broadcasts → option_map f other ≡ find (λ b. b.number == line) again → exists ≡ is_some other → exists ≡ false
     → not_overridden whose ≡ Ok tt → CanBegin s line task owner old
 can_begin f s line task owner whose old looked again other exists lives own has same idle still found is new unlent = record {
   lives = sym lives ∙ ap Some (sym own);
@@ -77,11 +77,11 @@ module _ (s : State) (line task : ℕ) (call : IdCall) (owner : Task) (old : Num
       ≡ in_slot s table_full (λ r slot. begun r
       (record { number = line; process = owner.process; caller = task; call = copied; waiting = waiting }) old.number made other slot)
   begins made copied waiting other rule same these is =
-      let cast : IdCall → List ℕ → Broadcast
+      let broadcast : IdCall → List ℕ → Broadcast
       = λ k ns. record { number = line; process = owner.process; caller = task; call = k; waiting = ns } in
-      begin_tests s line task call owner old made (cast copied waiting) can rule
-      (ap (λ (k : IdCall). cast k waiting) same ∙ ap (λ (ns : List ℕ). cast call ns) (others_are waiting these))
-      ∙ ap (λ (b : Bool). in_slot s table_full (λ r slot. begun r (cast copied waiting) old.number made b slot)) (sym is)
+      begin_tests s line task call owner old made (broadcast copied waiting) can rule
+      (ap (λ (k : IdCall). broadcast k waiting) same ∙ ap (λ (ns : List ℕ). broadcast call ns) (others_are waiting these))
+      ∙ ap (λ (b : Bool). in_slot s table_full (λ r slot. begun r (broadcast copied waiting) old.number made b slot)) (sym is)
 
 -- what is answered, by what answers the same
 pub same_answer : {E : Type 0} (given made : Answer × State) (answered : Result Answer E) (after : State) → given ≡ made
@@ -90,21 +90,21 @@ same_answer given made (Ok answer) after is gives = is ∙ gives
 same_answer given made (Err e) after is gives = tt
 
 -- The broadcast is open, and then its caller's credential is replaced.
-pub opens : (s : State) (cast : Broadcast) (old : ℕ) (made : Credential) (other : Bool) (slot : ℕ) (sweep : Bool) (number left : ℕ) (casts : List Broadcast)
+pub opens : (s : State) (broadcast : Broadcast) (old : ℕ) (made : Credential) (other : Bool) (slot : ℕ) (sweep : Bool) (number left : ℕ) (broadcasts : List Broadcast)
     (after : State) (flags : List ProcessFlag)
-    → free s ≡ Some slot → sweep ≡ not (is_some (least_free s)) → number ≡ length s.creds → left ≡ length cast.waiting → casts ≡ with_cast s.casts cast
-    → after ≡ replaced (swept_if sweep (record s { casts = casts })) cast.caller old made slot
-    → flags ≡ renewed after.dumpable cast.process other
-    → in_slot s table_full (λ r at. begun r cast old made other at) ≡ (Began number slot left, record after { dumpable = flags })
-opens s cast old made other slot sweep number left casts after flags found is numbers many cs leads fs =
-    in_free s table_full (λ r at. begun r cast old made other at) sweep slot found is
+    → free s ≡ Some slot → sweep ≡ not (is_some (least_free s)) → number ≡ length s.creds → left ≡ length broadcast.waiting → broadcasts ≡ with_broadcast s.broadcasts broadcast
+    → after ≡ replaced (swept_if sweep (record s { broadcasts = broadcasts })) broadcast.caller old made slot
+    → flags ≡ renewed after.dumpable broadcast.process other
+    → in_slot s table_full (λ r at. begun r broadcast old made other at) ≡ (Began number slot left, record after { dumpable = flags })
+opens s broadcast old made other slot sweep number left broadcasts after flags found is numbers many cs leads fs =
+    in_free s table_full (λ r at. begun r broadcast old made other at) sweep slot found is
     ∙ rw (fs, leads, cs, many, numbers) (same sweep)
   where
     same : (b : Bool)
-        → ◌≡◌ {A = Answer × State} (begun (swept_if b s) cast old made other slot) (
-          Began (length s.creds) slot (length cast.waiting),
-          record (replaced (swept_if b (record s { casts = with_cast s.casts cast })) cast.caller old made slot) {
-            dumpable = renewed (replaced (swept_if b (record s { casts = with_cast s.casts cast })) cast.caller old made slot).dumpable cast.process other;
+        → ◌≡◌ {A = Answer × State} (begun (swept_if b s) broadcast old made other slot) (
+          Began (length s.creds) slot (length broadcast.waiting),
+          record (replaced (swept_if b (record s { broadcasts = with_broadcast s.broadcasts broadcast })) broadcast.caller old made slot) {
+            dumpable = renewed (replaced (swept_if b (record s { broadcasts = with_broadcast s.broadcasts broadcast })) broadcast.caller old made slot).dumpable broadcast.process other;
           },
         )
     same true = refl

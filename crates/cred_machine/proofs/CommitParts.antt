@@ -10,7 +10,7 @@ use Rattle.cred_event.specs.declared.answer.Answer.{Answer}
 use Rattle.cred_event.specs.declared.answer.Answer.TheVariants.{Stale}
 use Rattle.cred_model.specs.State.{State, Broadcast, Changed, Prepared, ProcessFlag, SealedCred, Task, begun_by, numbered, task_of}
 use Rattle.cred_model.specs.Dumpable.{differs, flags_by, flags_committed}
-use Rattle.cred_model.specs.Casts.{not_busy, casts_left}
+use Rattle.cred_model.specs.Casts.{not_busy, broadcasts_left}
 use Rattle.cred_model.specs.Ends.{left_by, survivors}
 use Rattle.cred_model.specs.Moves.{given_up, not_overridden, with_current}
 use Rattle.cred_model.specs.Step.{by_commit, committed_by, for_task, outcome, try_commit}
@@ -86,35 +86,35 @@ module _ (s : State) (place : ℕ) (p : Prepared) (owner : Task) (last : Changed
 
   -- the state with these parts
   with_parts : List Task → List Broadcast → List Prepared → List ℕ → List ProcessFlag → List SealedCred → State
-  with_parts tasks casts prepared late flags creds =
-      record s { tasks = tasks; casts = casts; prepared = prepared; deferred = late; dumpable = flags; creds = creds }
+  with_parts tasks broadcasts prepared late flags creds =
+      record s { tasks = tasks; broadcasts = broadcasts; prepared = prepared; deferred = late; dumpable = flags; creds = creds }
 
   same_parts : {ts us : List Task} {cs ds : List Broadcast} {ps qs : List Prepared} {ms ns : List ℕ} {gs hs : List ProcessFlag} {es fs : List SealedCred}
       → ts ≡ us → cs ≡ ds → ps ≡ qs → ms ≡ ns → gs ≡ hs → es ≡ fs → with_parts ts cs ps ms gs es ≡ with_parts us ds qs ns hs fs
-  same_parts tasks casts prepared late flags creds = rw (tasks, casts, prepared, late, flags, creds) refl
+  same_parts tasks broadcasts prepared late flags creds = rw (tasks, broadcasts, prepared, late, flags, creds) refl
 
-  pub commits : (ending : Ending) (answer : Answer) (number ended : ℕ) (cred : Credential) (tasks goes_on : List Task) (casts : List Broadcast)
+  pub commits : (ending : Ending) (answer : Answer) (number ended : ℕ) (cred : Credential) (tasks goes_on : List Task) (broadcasts : List Broadcast)
       (prepared : List Prepared)
       (numbers late : List ℕ) (flags : List ProcessFlag) (other : Bool) (old creds : List SealedCred) → IsOnCurrent s place
       → ending ≡ ending_of last.change owner.process p.task
       → number ≡ length old → old ≡ s.creds → ended ≡ count_by (ends_by ending) s.tasks
       → answer ≡ committed_by last.change last.gains number p.slot ended
       → tasks ≡ with_current goes_on p.task number → goes_on ≡ survivors (ends_by ending) s.tasks
-      → casts ≡ casts_left last.change owner.process s.casts
+      → broadcasts ≡ broadcasts_left last.change owner.process s.broadcasts
       → prepared ≡ remove s.prepared place → numbers ≡ left_by (ends_by ending) s.tasks ++ owner.current ∷ p.base ∷ []
       → late ≡ s.deferred ++ numbers → flags ≡ flags_by last.change last.gains s.dumpable owner.process other
       → other ≡ option_map_or (λ old. differs old.cred last.cred) (numbered s.creds owner.current) false → cred ≡ last.cred
       → creds ≡ old ++ record { cred = cred; slot = p.slot } ∷ []
-      → Commits s place answer (record s { tasks = tasks; casts = casts; prepared = prepared; deferred = late; dumpable = flags; creds = creds })
+      → Commits s place answer (record s { tasks = tasks; broadcasts = broadcasts; prepared = prepared; deferred = late; dumpable = flags; creds = creds })
   unfolding with_parts
-  commits ending answer number ended cred tasks goes_on casts prepared numbers late flags other old creds current ends many same count answers ts goes cs ps left ls fs ids copied es =
+  commits ending answer number ended cred tasks goes_on broadcasts prepared numbers late flags other old creds current ends many same count answers ts goes cs ps left ls fs ids copied es =
       let now = ending_of last.change owner.process p.task in
       let own = owner_number s p.task owner is.lives in
       let next : number ≡ length s.creds = many ∙ ap length same in
       let by_ending : Ending → List Task = λ e. with_current (survivors (ends_by e) s.tasks) p.task (length s.creds) in
       let late_by : Ending → List ℕ = λ e. s.deferred ++ (left_by (ends_by e) s.tasks ++ owner.current ∷ p.base ∷ []) in
-      let parts : with_parts tasks casts prepared late flags creds
-      ≡ with_parts (by_ending now) (casts_left last.change owner.process s.casts) (remove s.prepared place) (late_by now) (flags_committed s owner last)
+      let parts : with_parts tasks broadcasts prepared late flags creds
+      ≡ with_parts (by_ending now) (broadcasts_left last.change owner.process s.broadcasts) (remove s.prepared place) (late_by now) (flags_committed s owner last)
       (s.creds ++ record { cred = last.cred; slot = p.slot } ∷ [])
       = same_parts
       (ts ∙ ap (λ (us : List Task). with_current us p.task number) goes
@@ -127,10 +127,10 @@ module _ (s : State) (place : ℕ) (p : Prepared) (owner : Task) (last : Changed
       = answers
       ∙ ap (λ (n : ℕ). committed_by last.change last.gains n p.slot ended) next
       ∙ ap (λ (n : ℕ). committed_by last.change last.gains (length s.creds) p.slot n) (count ∙ ap (λ (e : Ending). count_by (ends_by e) s.tasks) ends) in
-      commits_by answer (with_parts tasks casts prepared late flags creds)
+      commits_by answer (with_parts tasks broadcasts prepared late flags creds)
       (settled s place p owner last (current p owner last is) own
       ∙ ap (λ (r : State). (committed_by last.change last.gains (length s.creds) p.slot (count_by (ends_by now) s.tasks), r)) (sym parts)
-      ∙ ap (λ (a : Answer). (a, with_parts tasks casts prepared late flags creds)) (sym said))
+      ∙ ap (λ (a : Answer). (a, with_parts tasks broadcasts prepared late flags creds)) (sym said))
 
 -- ---- the tests of a commit
 

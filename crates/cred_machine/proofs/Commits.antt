@@ -9,8 +9,8 @@ use Rattle.cred_model.specs.State.{State, Task, Prepared, Changed}
 use Rattle.cred_model.specs.Dumpable.{flags_committed}
 use Rattle.cred_model.specs.Ends.{ended, left_by, survivors}
 use Rattle.cred_model.specs.Moves.{committed, given_up, with_current}
-use Rattle.cred_model.specs.Step.{casts_after, committed_by, ends_with, try_commit}
-use Rattle.cred_model.specs.Casts.{casts_left}
+use Rattle.cred_model.specs.Step.{broadcasts_after, committed_by, ends_with, try_commit}
+use Rattle.cred_model.specs.Casts.{broadcasts_left}
 use Rattle.cred_plain.specs.Tasks.{ending_of, ends_by, is_other_thread}
 
 -- which tasks end
@@ -20,11 +20,11 @@ ends_are (SetFs kind id) owner task same = refl
 ends_are (Adjust call) owner task same = refl
 ends_are Access owner task same = refl
 
-casts_are : (change : Change) (owner : Task) (s : State) → casts_after change owner s ≡ record s { casts = casts_left change owner.process s.casts }
-casts_are (Exec file) owner s = refl
-casts_are (SetFs kind id) owner s = refl
-casts_are (Adjust call) owner s = refl
-casts_are Access owner s = refl
+broadcasts_are : (change : Change) (owner : Task) (s : State) → broadcasts_after change owner s ≡ record s { broadcasts = broadcasts_left change owner.process s.broadcasts }
+broadcasts_are (Exec file) owner s = refl
+broadcasts_are (SetFs kind id) owner s = refl
+broadcasts_are (Adjust call) owner s = refl
+broadcasts_are Access owner s = refl
 
 module _ (s : State) (place : ℕ) (p : Prepared) (owner : Task) (last : Changed) where
   pub stale : owner.current ≢ p.base → try_commit s place p owner last ≡ (Stale p.base owner.current, given_up s place p)
@@ -36,7 +36,7 @@ module _ (s : State) (place : ℕ) (p : Prepared) (owner : Task) (last : Changed
   after : (Task → Bool) → List ℕ → State
   after ends late = record s {
     tasks = with_current (survivors ends s.tasks) p.task (length s.creds);
-    casts = casts_left last.change owner.process s.casts;
+    broadcasts = broadcasts_left last.change owner.process s.broadcasts;
     prepared = remove s.prepared place;
     deferred = late;
     dumpable = flags_committed s owner last;
@@ -52,7 +52,7 @@ module _ (s : State) (place : ℕ) (p : Prepared) (owner : Task) (last : Changed
         committed_by last.change last.gains (length s.creds) p.slot (count_by (ends_by (ending_of last.change owner.process p.task)) s.tasks),
         record s {
           tasks = with_current (survivors (ends_by (ending_of last.change owner.process p.task)) s.tasks) p.task (length s.creds);
-          casts = casts_left last.change owner.process s.casts;
+          broadcasts = broadcasts_left last.change owner.process s.broadcasts;
           prepared = remove s.prepared place;
           deferred = s.deferred ++ (left_by (ends_by (ending_of last.change owner.process p.task)) s.tasks ++ owner.current ∷ p.base ∷ []);
           dumpable = flags_committed s owner last;
@@ -67,12 +67,12 @@ module _ (s : State) (place : ℕ) (p : Prepared) (owner : Task) (last : Changed
       let first : try_commit s place p owner last
       ≡ (
         answered ends,
-        record (casts_after last.change owner (committed (ended ends s) place p owner.current last.cred)) { dumpable = flags_committed s owner last },
+        record (broadcasts_after last.change owner (committed (ended ends s) place p owner.current last.cred)) { dumpable = flags_committed s owner last },
       )
       = rw test refl in
       first
       ∙ ap (λ (r : State). (answered ends, record r { dumpable = flags_committed s owner last }))
-      (casts_are last.change owner (committed (ended ends s) place p owner.current last.cred))
+      (broadcasts_are last.change owner (committed (ended ends s) place p owner.current last.cred))
       ∙ ap (λ (late : List ℕ). (answered ends, after ends late)) (append_assoc s.deferred (left_by ends s.tasks) (owner.current ∷ p.base ∷ []))
       ∙ ap (λ (e : Task → Bool). (answered e, after e (s.deferred ++ (left_by e s.tasks ++ owner.current ∷ p.base ∷ []))))
       (ends_are last.change owner p.task own)

@@ -4,7 +4,7 @@ use Rattle.cred_record.specs.Credential.{Credential, first_credential}
 use Rattle.cred_record.specs.declared.id_call.IdCall.{IdCall}
 use Rattle.cred_rules.specs.SetId.{set_id}
 use Rattle.cred_event.specs.declared.answer.Answer.TheVariants.{Done, Kept, Sealed}
-use Rattle.cred_model.specs.State.{State, Broadcast, Changed, Hold, Prepared, Task, Numbered, begun_by, cast_in, cast_of, hold_of, numbered, prepared_of}
+use Rattle.cred_model.specs.State.{State, Broadcast, Changed, Hold, Prepared, Task, Numbered, begun_by, broadcast_in, broadcast_of, hold_of, numbered, prepared_of}
 use Rattle.cred_model.specs.State.{task_of}
 use Rattle.cred_model.specs.Casts.{joined, not_busy, waits_no_more, others_of}
 use Rattle.cred_model.specs.Dumpable.{differs, flags_begun, flags_left, is_dumpable, with_process_flag}
@@ -22,7 +22,7 @@ pub exited : (s : State) (task : ℕ) (owner : Task) → task_of s task ≡ Some
       Done,
       record s {
         tasks = survivors (is_task task) s.tasks;
-        casts = waits_no_more task s.casts;
+        broadcasts = waits_no_more task s.broadcasts;
         deferred = s.deferred ++ left_by (is_task task) s.tasks;
         dumpable = flags_left s owner;
       },
@@ -42,7 +42,7 @@ pub spawned : (s : State) (task child : ℕ) (owner : Task) (parent : Numbered) 
     → outcome s (by_spawn s task child)
     ≡ (
       Sealed parent.number parent.slot,
-      record s { tasks = s.tasks ++ first_task child owner.process parent.number ∷ []; casts = joined task child s.casts },
+      record s { tasks = s.tasks ++ first_task child owner.process parent.number ∷ []; broadcasts = joined task child s.broadcasts },
     )
 spawned s task child owner parent can = rw (can.lives, can.has, can.idle, can.new, can.own, can.few) refl
 
@@ -58,7 +58,7 @@ pub forked : (s : State) (task child process : ℕ) (owner : Task) (parent : Num
     )
 forked s task child process owner parent can unused = rw (can.lives, can.has, can.idle, can.new, unused, can.own, can.few) refl
 
-pub init_tests : (s : State) (task process user group ns root : ℕ) → not_busy (cast_in s process) ≡ Ok tt → task_of s task ≡ None
+pub init_tests : (s : State) (task process user group ns root : ℕ) → not_busy (broadcast_in s process) ≡ Ok tt → task_of s task ≡ None
     → nat_lt (length s.tasks) TASKS ≡ true
     → outcome s (by_init s task process user group ns root)
     ≡ in_slot s table_full (λ r slot. (
@@ -92,13 +92,13 @@ prepare_tests s label task hold held can = rw (can.lives, can.idle, can.has, can
 pub record CanBegin (s : State) (line task : ℕ) (owner : Task) (old : Numbered) : Type 0 where
   pub lives : task_of s task ≡ Some owner
   pub has : numbered s.creds owner.current ≡ Some old
-  pub idle : not_busy (cast_in s owner.process) ≡ Ok tt
-  pub new : cast_of s line ≡ None
+  pub idle : not_busy (broadcast_in s owner.process) ≡ Ok tt
+  pub new : broadcast_of s line ≡ None
   pub own : not_overridden owner ≡ Ok tt
 
-pub begin_tests : (s : State) (line task : ℕ) (call : IdCall) (owner : Task) (old : Numbered) (made : Credential) (cast : Broadcast)
+pub begin_tests : (s : State) (line task : ℕ) (call : IdCall) (owner : Task) (old : Numbered) (made : Credential) (broadcast : Broadcast)
     → CanBegin s line task owner old → set_id old.cred call ≡ Ok made
-    → cast ≡ record { number = line; process = owner.process; caller = task; call = call; waiting = others_of owner s.tasks }
-    → outcome s (by_begin s line task call) ≡ in_slot s table_full (λ r slot. begun r cast old.number made (differs old.cred made) slot)
-begin_tests s line task call owner old made cast can rule is =
+    → broadcast ≡ record { number = line; process = owner.process; caller = task; call = call; waiting = others_of owner s.tasks }
+    → outcome s (by_begin s line task call) ≡ in_slot s table_full (λ r slot. begun r broadcast old.number made (differs old.cred made) slot)
+begin_tests s line task call owner old made broadcast can rule is =
     rw (can.lives, can.has, can.idle, can.new, can.own, rule, is) refl

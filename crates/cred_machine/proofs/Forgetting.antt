@@ -101,7 +101,7 @@ module _ (s : State) (creds : List SealedCred) (r : References) (are : AreOf r s
       → IsLike (record s { creds = creds }) s
   forgets slots kept = record {
     tasks = refl;
-    casts = refl;
+    broadcasts = refl;
     files = refl;
     holds = refl;
     prepared = refl;

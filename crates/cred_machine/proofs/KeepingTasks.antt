@@ -17,9 +17,9 @@ use Rattle.cred_model.specs.Moves.{committed, created, first_task, given_up, wit
 use Rattle.cred_model.specs.Moves.{with_overrides}
 use Rattle.cred_model.specs.Slots.{refs}
 use Rattle.cred_model.specs.State.{State, Task, Broadcast, Prepared, Changed, Numbered, numbered, task_of}
-use Rattle.cred_model.specs.Step.{casts_after, commit_answer, ends_with, try_commit}
+use Rattle.cred_model.specs.Step.{broadcasts_after, commit_answer, ends_with, try_commit}
 use Rattle.cred_model.proofs.Lists.{All-left, All-right}
-use Rattle.cred_model.proofs.Referred.{EachRef, each_casts, each_prepared, each_tasks}
+use Rattle.cred_model.proofs.Referred.{EachRef, each_broadcasts, each_prepared, each_tasks}
 use Rattle.cred_model.proofs.Numbers.{numbered_is, overriding_task, owner_number, updated_task}
 use Rattle.cred_sound.specs.Sound.{IsSound}
 use Rattle.cred_sound.proofs.Parts.{with_left}
@@ -28,7 +28,7 @@ use Rattle.cred_sound.proofs.Survivors.{find_goes_on}
 use Rattle.cred_machine.specs.Kept.{may_have_swept}
 use Rattle.cred_machine.proofs.Lasting.{IsOwn, currents_before, currents_ended, currents_stay, last_of, overridden_before, overrides_ended, overrides_stay}
 use Rattle.cred_machine.proofs.Lasting.{owned, unremoved}
-use Rattle.cred_machine.proofs.KeptByEvents.{IsLeft, Keeps, OneMore, NoneMore, all_stand, each_before, each_creds, gives_up_prepared, if_left, with_casts}
+use Rattle.cred_machine.proofs.KeptByEvents.{IsLeft, Keeps, OneMore, NoneMore, all_stand, each_before, each_creds, gives_up_prepared, if_left, with_broadcasts}
 use Rattle.cred_machine.proofs.KeptByEvents.{with_flags}
 
 -- the tasks before there was one more
@@ -54,25 +54,25 @@ creates s left slot task process c is =
     }
 
 -- a task more that shares a credential
-pub shares : (s : State) (answer : Answer) (new : Task) (casts : List Broadcast) → Keeps s (answer, record s { tasks = s.tasks ++ new ∷ []; casts = casts })
-shares s answer new casts =
-    let t = record s { tasks = s.tasks ++ new ∷ []; casts = casts } in
+pub shares : (s : State) (answer : Answer) (new : Task) (broadcasts : List Broadcast) → Keeps s (answer, record s { tasks = s.tasks ++ new ∷ []; broadcasts = broadcasts })
+shares s answer new broadcasts =
+    let t = record s { tasks = s.tasks ++ new ∷ []; broadcasts = broadcasts } in
     let own = own_refs t in
-    all_stand s t answer (each_casts (tasks_before own s.tasks new own.currents own.overrides) s.casts) refl
+    all_stand s t answer (each_broadcasts (tasks_before own s.tasks new own.currents own.overrides) s.broadcasts) refl
 
 -- tasks end
-pub ends_some : (s : State) (answer : Answer) (left : List ℕ) (ends : Task → Bool) (casts : List Broadcast)
+pub ends_some : (s : State) (answer : Answer) (left : List ℕ) (ends : Task → Bool) (broadcasts : List Broadcast)
     → (left ≡ s.deferred) ⊎ ((after : ℕ) → may_have_swept (length s.deferred) answer after ≡ true)
-    → Keeps s (answer, record (ended ends (with_left s left)) { casts = casts })
-ends_some s answer left ends casts is =
-    let t = record (ended ends (with_left s left)) { casts = casts } in
+    → Keeps s (answer, record (ended ends (with_left s left)) { broadcasts = broadcasts })
+ends_some s answer left ends broadcasts is =
+    let t = record (ended ends (with_left s left)) { broadcasts = broadcasts } in
     let H = Contains (refs t) in
     let own = own_refs t in
     let late = All-right H left (left_by ends s.tasks) own.deferred in
     record {
       left = left;
-      each = each_casts (each_tasks (each_before own left (left_by ends s.tasks) own.deferred) s.tasks
-          (currents_ended H ends s.tasks own.currents late) (overrides_ended H ends s.tasks own.overrides late)) s.casts;
+      each = each_broadcasts (each_tasks (each_before own left (left_by ends s.tasks) own.deferred) s.tasks
+          (currents_ended H ends s.tasks own.currents late) (overrides_ended H ends s.tasks own.overrides late)) s.broadcasts;
       swept = at is;
       creds = NoneMore refl;
     }
@@ -97,13 +97,13 @@ renewed s tasks task new owner are found own =
     is_same m n is = grind (arith, nat_tests)
 
 -- a task's credential is replaced
-pub replaces : (s : State) (answer : Answer) (left : List ℕ) (task slot : ℕ) (owner : Task) (old : Numbered) (c : Credential) (casts : List Broadcast)
+pub replaces : (s : State) (answer : Answer) (left : List ℕ) (task slot : ℕ) (owner : Task) (old : Numbered) (c : Credential) (broadcasts : List Broadcast)
     → IsSound s
     → task_of s task ≡ Some owner → numbered s.creds owner.current ≡ Some old
     → (left ≡ s.deferred) ⊎ (may_have_swept (length s.deferred) answer (length (left ++ old.number ∷ [])) ≡ true)
-    → Keeps s (answer, record (replaced (with_left s left) task old.number c slot) { casts = casts })
-replaces s answer left task slot owner old c casts sound found at is =
-    let t = record (replaced (with_left s left) task old.number c slot) { casts = casts } in
+    → Keeps s (answer, record (replaced (with_left s left) task old.number c slot) { broadcasts = broadcasts })
+replaces s answer left task slot owner old c broadcasts sound found at is =
+    let t = record (replaced (with_left s left) task old.number c slot) { broadcasts = broadcasts } in
     let H = Contains (refs t) in
     let own = own_refs t in
     let new = length s.creds in
@@ -111,9 +111,9 @@ replaces s answer left task slot owner old c casts sound found at is =
     let gone = subst H (numbered_is s.creds owner.current old at).0 (last_of H left old.number own.deferred) in
     record {
       left = left;
-      each = each_casts (each_creds (each_tasks (each_before own left (old.number ∷ []) own.deferred) s.tasks
+      each = each_broadcasts (each_creds (each_tasks (each_before own left (old.number ∷ []) own.deferred) s.tasks
           (currents_before H task owner number new s.tasks (owned s.tasks task owner sound.tasks found) gone own.currents)
-          (overrides_stay H task owner number new s.tasks own.overrides)) s.creds) s.casts;
+          (overrides_stay H task owner number new s.tasks own.overrides)) s.creds) s.broadcasts;
       swept = is;
       creds = OneMore (record { cred = c; slot = slot }) refl (renewed t s.tasks task new owner refl found number);
     }
@@ -162,11 +162,11 @@ commits s answer place p ends owner c sound is found on =
       creds = OneMore (record { cred = c; slot = p.slot }) refl (renewed t rest p.task new owner refl goes_on.0 number);
     }
 
-commits_casts : (s t : State) (answer : Answer) (change : Change) (owner : Task) → Keeps s (answer, t) → Keeps s (answer, casts_after change owner t)
-commits_casts s t answer (Exec file) owner keeps = with_casts s t answer (dropped owner.process t.casts) keeps
-commits_casts s t answer (SetFs kind id) owner keeps = keeps
-commits_casts s t answer (Adjust call) owner keeps = keeps
-commits_casts s t answer Access owner keeps = keeps
+commits_broadcasts : (s t : State) (answer : Answer) (change : Change) (owner : Task) → Keeps s (answer, t) → Keeps s (answer, broadcasts_after change owner t)
+commits_broadcasts s t answer (Exec file) owner keeps = with_broadcasts s t answer (dropped owner.process t.broadcasts) keeps
+commits_broadcasts s t answer (SetFs kind id) owner keeps = keeps
+commits_broadcasts s t answer (Adjust call) owner keeps = keeps
+commits_broadcasts s t answer Access owner keeps = keeps
 
 pub tries_commit : (s : State) (place : ℕ) (p : Prepared) (owner : Task) (last : Changed) → IsSound s → slice_get s.prepared place ≡ Some p
     → task_of s p.task ≡ Some owner → Keeps s (try_commit s place p owner last)
@@ -174,9 +174,9 @@ tries_commit s place p owner last sound is found =
     let ends = ends_with last.change owner in
     let answer = commit_answer last (length s.creds) p.slot (count_by ends s.tasks) in
     let t = committed (ended ends s) place p owner.current last.cred in
-    elim (owner.current == p.base) as (λ b. Keeps s (cond {A = Answer × State} b (answer, record (casts_after last.change owner t) { dumpable = flags_committed s owner last }) (Stale p.base owner.current, given_up s place p))) [
-      | true ↦ with_flags s (casts_after last.change owner t) answer (flags_committed s owner last)
-          (commits_casts s t answer last.change owner (commits s answer place p ends owner last.cred sound is found (not_itself last.change owner)))
+    elim (owner.current == p.base) as (λ b. Keeps s (cond {A = Answer × State} b (answer, record (broadcasts_after last.change owner t) { dumpable = flags_committed s owner last }) (Stale p.base owner.current, given_up s place p))) [
+      | true ↦ with_flags s (broadcasts_after last.change owner t) answer (flags_committed s owner last)
+          (commits_broadcasts s t answer last.change owner (commits s answer place p ends owner last.cred sound is found (not_itself last.change owner)))
       | false ↦ gives_up_prepared s (Stale p.base owner.current) place p is
     ]
 

@@ -105,13 +105,13 @@ pub refused : (s : State) (answer : Answer) → Keeps s (answer, s)
 refused s answer = still s answer s.deferred (inl refl)
 
 -- broadcasts refer to nothing
-pub with_casts : (s t : State) (answer : Answer) (casts : List Broadcast) → Keeps s (answer, t) → Keeps s (answer, record t { casts = casts })
-with_casts s t answer casts keeps = record { left = keeps.left; each = by keeps.each; swept = keeps.swept; creds = more keeps.creds }
+pub with_broadcasts : (s t : State) (answer : Answer) (broadcasts : List Broadcast) → Keeps s (answer, t) → Keeps s (answer, record t { broadcasts = broadcasts })
+with_broadcasts s t answer broadcasts keeps = record { left = keeps.left; each = by keeps.each; swept = keeps.swept; creds = more keeps.creds }
   where
     by : EachRef (Contains (refs t)) (with_left s keeps.left) → EachRef (Contains (refs t)) (with_left s keeps.left)
     by each = each
 
-    more : CredsKept s t → CredsKept s (record t { casts = casts })
+    more : CredsKept s t → CredsKept s (record t { broadcasts = broadcasts })
     more (NoneMore same) = NoneMore same
     more (OneMore new is there) = OneMore new is there
 

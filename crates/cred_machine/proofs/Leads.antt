@@ -6,7 +6,7 @@ use Rattle.cred_event.specs.declared.answer.AbortCause.{AbortCause}
 use Rattle.cred_event.specs.declared.answer.Answer.{Answer}
 use Rattle.cred_event.specs.declared.answer.Answer.TheVariants.{Done, Kept, Sealed, TableFull}
 use Rattle.cred_record.specs.Credential.{Credential, first_credential}
-use Rattle.cred_model.specs.State.{State, Broadcast, Hold, Prepared, SealedCred, Task, Numbered, ProcessFlag, begun_by, cast_in, hold_of, numbered, prepared_of}
+use Rattle.cred_model.specs.State.{State, Broadcast, Hold, Prepared, SealedCred, Task, Numbered, ProcessFlag, begun_by, broadcast_in, hold_of, numbered, prepared_of}
 use Rattle.cred_model.specs.State.{task_of}
 use Rattle.cred_model.specs.Slots.{free, least_free, swept}
 use Rattle.cred_model.specs.Casts.{dropped, joined, not_busy, waits_no_more}
@@ -25,56 +25,56 @@ use Rattle.cred_machine.proofs.Seen.{found_in}
 
 -- the state with these tasks, broadcasts, flags, and numbers that were given up
 with_parts : State → List Task → List Broadcast → List ℕ → List ProcessFlag → State
-with_parts s tasks casts late flags = record s { tasks = tasks; casts = casts; deferred = late; dumpable = flags }
+with_parts s tasks broadcasts late flags = record s { tasks = tasks; broadcasts = broadcasts; deferred = late; dumpable = flags }
 
 same_parts : (s : State) {ts us : List Task} {cs ds : List Broadcast} {ms ns : List ℕ} {fs gs : List ProcessFlag}
     → ts ≡ us → cs ≡ ds → ms ≡ ns → fs ≡ gs → with_parts s ts cs ms fs ≡ with_parts s us ds ns gs
-same_parts s tasks casts late flags = rw (tasks, casts, late, flags) refl
+same_parts s tasks broadcasts late flags = rw (tasks, broadcasts, late, flags) refl
 
 -- the flags after the end of a thread of this process, where it has another thread or hasn't
 flags_unless : State → ℕ → Bool → List ProcessFlag
 flags_unless s process other = if other then s.dumpable else without_flag s.dumpable process
 
-pub exit_leads : (s : State) (task : ℕ) (owner : Task) (tasks : List Task) (casts : List Broadcast) (late numbers : List ℕ) (flags : List ProcessFlag)
+pub exit_leads : (s : State) (task : ℕ) (owner : Task) (tasks : List Task) (broadcasts : List Broadcast) (late numbers : List ℕ) (flags : List ProcessFlag)
     (other : Bool)
     → task_of s task ≡ Some owner → not_busy (begun_by s task) ≡ Ok tt → not_overridden owner ≡ Ok tt
-    → tasks ≡ survivors (is_task task) s.tasks → casts ≡ waits_no_more task s.casts → late ≡ s.deferred ++ numbers → numbers ≡ left_by (is_task task) s.tasks
+    → tasks ≡ survivors (is_task task) s.tasks → broadcasts ≡ waits_no_more task s.broadcasts → late ≡ s.deferred ++ numbers → numbers ≡ left_by (is_task task) s.tasks
     → flags ≡ (if other then s.dumpable else without_flag s.dumpable owner.process) → other ≡ is_some (find (is_other_thread owner.process task) s.tasks)
-    → outcome s (by_exit s task) ≡ (Done, record s { tasks = tasks; casts = casts; deferred = late; dumpable = flags })
+    → outcome s (by_exit s task) ≡ (Done, record s { tasks = tasks; broadcasts = broadcasts; deferred = late; dumpable = flags })
 unfolding with_parts flags_unless
-exit_leads s task owner tasks casts late numbers flags other lives idle own ts cs ns left fs is =
+exit_leads s task owner tasks broadcasts late numbers flags other lives idle own ts cs ns left fs is =
     exited s task owner lives idle own
     ∙ ap (λ (r : State). (Done, r))
     (sym (same_parts s ts cs (ns ∙ ap (λ ms. s.deferred ++ ms) left)
     (fs ∙ ap (flags_unless s owner.process)
     (is ∙ ap (λ (n : ℕ). is_some (find (is_other_thread owner.process n) s.tasks)) (sym (owner_number s task owner lives))))))
 
-pub process_ended : (s : State) (process : ℕ) (tasks : List Task) (casts : List Broadcast) (late numbers : List ℕ) (flags : List ProcessFlag) (sweep : Bool)
-    → tasks ≡ survivors (is_thread_of process) s.tasks → casts ≡ dropped process s.casts → flags ≡ without_flag s.dumpable process
+pub process_ended : (s : State) (process : ℕ) (tasks : List Task) (broadcasts : List Broadcast) (late numbers : List ℕ) (flags : List ProcessFlag) (sweep : Bool)
+    → tasks ≡ survivors (is_thread_of process) s.tasks → broadcasts ≡ dropped process s.broadcasts → flags ≡ without_flag s.dumpable process
     → late ≡ (if sweep then [] else s.deferred) ++ numbers → numbers ≡ left_by (is_thread_of process) s.tasks
     → (cause : AbortCause) → at_abort cause s ≡ (if sweep then record s { deferred = [] } else s)
-    → (cast : Broadcast) → cast.process ≡ process
-    → record s { tasks = tasks; casts = casts; deferred = late; dumpable = flags } ≡ aborted cast (at_abort cause s)
+    → (broadcast : Broadcast) → broadcast.process ≡ process
+    → record s { tasks = tasks; broadcasts = broadcasts; deferred = late; dumpable = flags } ≡ aborted broadcast (at_abort cause s)
 unfolding with_parts
-process_ended s process tasks casts late numbers flags sweep ts cs fs ns left cause is cast same =
+process_ended s process tasks broadcasts late numbers flags sweep ts cs fs ns left cause is broadcast same =
     same_parts s ts cs (ns ∙ ap (λ ms. (if sweep then [] else s.deferred) ++ ms) left) fs
     ∙ at sweep
-    ∙ ap (λ (p : ℕ). aborted (record cast { process = p }) (if sweep then record s { deferred = [] } else s)) (sym same)
-    ∙ ap (aborted cast) (sym is)
+    ∙ ap (λ (p : ℕ). aborted (record broadcast { process = p }) (if sweep then record s { deferred = [] } else s)) (sym same)
+    ∙ ap (aborted broadcast) (sym is)
   where
     at : (b : Bool)
-        → with_parts s (survivors (is_thread_of process) s.tasks) (dropped process s.casts)
+        → with_parts s (survivors (is_thread_of process) s.tasks) (dropped process s.broadcasts)
         ((if b then [] else s.deferred) ++ left_by (is_thread_of process) s.tasks) (without_flag s.dumpable process)
-        ≡ aborted (record cast { process = process }) (if b then record s { deferred = [] } else s)
+        ≡ aborted (record broadcast { process = process }) (if b then record s { deferred = [] } else s)
     at true = refl
     at false = refl
 
-pub spawn_leads : (s : State) (task child : ℕ) (owner : Task) (parent : Numbered) (tasks : List Task) (casts : List Broadcast)
+pub spawn_leads : (s : State) (task child : ℕ) (owner : Task) (parent : Numbered) (tasks : List Task) (broadcasts : List Broadcast)
     → CanCreate s task child owner parent
-    → tasks ≡ s.tasks ++ first_task child owner.process parent.number ∷ [] → casts ≡ joined task child s.casts
-    → outcome s (by_spawn s task child) ≡ (Sealed parent.number parent.slot, record s { tasks = tasks; casts = casts })
+    → tasks ≡ s.tasks ++ first_task child owner.process parent.number ∷ [] → broadcasts ≡ joined task child s.broadcasts
+    → outcome s (by_spawn s task child) ≡ (Sealed parent.number parent.slot, record s { tasks = tasks; broadcasts = broadcasts })
 unfolding with_parts
-spawn_leads s task child owner parent tasks casts can ts cs =
+spawn_leads s task child owner parent tasks broadcasts can ts cs =
     spawned s task child owner parent can ∙ ap (λ (r : State). (Sealed parent.number parent.slot, r)) (sym (same_parts s ts cs refl refl))
 
 pub fork_leads : (s : State) (task child process : ℕ) (owner : Task) (parent : Numbered) (tasks : List Task) (flags : List ProcessFlag) (dumpable : Bool)
@@ -93,18 +93,18 @@ not_full true full is no_more = refl
 not_full false full is no_more = cc
 
 -- what is found among the broadcasts of the state
-pub busy_at : (s : State) (casts : List Broadcast) (task : ℕ) (r : Result (Unit {0}) Answer) → casts ≡ s.casts
-    → not_busy (find (λ b. b.caller == task) casts) ≡ r → not_busy (begun_by s task) ≡ r
-busy_at s casts task r same busy = subst (λ (cs : List Broadcast). not_busy (find (λ b. b.caller == task) cs) ≡ r) same busy
+pub busy_at : (s : State) (broadcasts : List Broadcast) (task : ℕ) (r : Result (Unit {0}) Answer) → broadcasts ≡ s.broadcasts
+    → not_busy (find (λ b. b.caller == task) broadcasts) ≡ r → not_busy (begun_by s task) ≡ r
+busy_at s broadcasts task r same busy = subst (λ (cs : List Broadcast). not_busy (find (λ b. b.caller == task) cs) ≡ r) same busy
 
-pub idle_in : (s : State) (casts : List Broadcast) (process : ℕ) (r : Result (Unit {0}) Answer) → casts ≡ s.casts
-    → not_busy (find (λ b. b.process == process) casts) ≡ r → not_busy (cast_in s process) ≡ r
-idle_in s casts process r same busy = subst (λ (cs : List Broadcast). not_busy (find (λ b. b.process == process) cs) ≡ r) same busy
+pub idle_in : (s : State) (broadcasts : List Broadcast) (process : ℕ) (r : Result (Unit {0}) Answer) → broadcasts ≡ s.broadcasts
+    → not_busy (find (λ b. b.process == process) broadcasts) ≡ r → not_busy (broadcast_in s process) ≡ r
+idle_in s broadcasts process r same busy = subst (λ (cs : List Broadcast). not_busy (find (λ b. b.process == process) cs) ≡ r) same busy
 
 -- a task that may create another, by what was read
 pub can_create : (s : State) (task child : ℕ) (owner whose : Task) (parent : Numbered) (looked : List Broadcast) (alive full : Bool)
     → Some whose ≡ task_of s task → owner ≡ whose → Some parent ≡ numbered s.creds owner.current
-    → looked ≡ s.casts → not_busy (find (λ b. b.caller == task) looked) ≡ Ok tt → alive ≡ is_some (task_of s child) → alive ≡ false
+    → looked ≡ s.broadcasts → not_busy (find (λ b. b.caller == task) looked) ≡ Ok tt → alive ≡ is_some (task_of s child) → alive ≡ false
     → not_overridden whose ≡ Ok tt → full ≡ not (nat_lt (length s.tasks) TASKS) → full ≡ false → CanCreate s task child owner parent
 can_create s task child owner whose parent looked alive full lives own has same idle is new unlent many room = record {
   lives = sym lives ∙ ap Some (sym own);
@@ -117,7 +117,7 @@ can_create s task child owner whose parent looked alive full lives own has same 
 
 -- a label that may prepare
 pub can_prepare : (s : State) (label task hold : ℕ) (held whose : Hold) (looked : List Broadcast) (among : List Hold) (alive used : Bool)
-    → alive ≡ is_some (task_of s task) → alive ≡ true → looked ≡ s.casts → not_busy (find (λ b. b.caller == task) looked) ≡ Ok tt
+    → alive ≡ is_some (task_of s task) → alive ≡ true → looked ≡ s.broadcasts → not_busy (find (λ b. b.caller == task) looked) ≡ Ok tt
     → among ≡ s.holds → Some whose ≡ find (λ h. h.label == hold) among → held ≡ whose
     → used ≡ (is_some (hold_of s label) || is_some (prepared_of s label)) → used ≡ false → nat_lt (length s.prepared) PREPARED ≡ true
     → CanPrepare s label task hold held
@@ -136,7 +136,7 @@ can_prepare s label task hold held whose looked among alive used is lives same i
 
 pub init_leads : (s : State) (task process user group ns root number slot : ℕ) (sweep : Bool) (c : Credential) (tasks : List Task) (late : List ℕ)
     (flags : List ProcessFlag) (old creds : List SealedCred)
-    → not_busy (cast_in s process) ≡ Ok tt → task_of s task ≡ None → nat_lt (length s.tasks) TASKS ≡ true
+    → not_busy (broadcast_in s process) ≡ Ok tt → task_of s task ≡ None → nat_lt (length s.tasks) TASKS ≡ true
     → free s ≡ Some slot → sweep ≡ not (is_some (least_free s)) → number ≡ length old → old ≡ s.creds → c ≡ first_credential user group ns root
     → tasks ≡ s.tasks ++ first_task task process number ∷ [] → creds ≡ old ++ record { cred = c; slot = slot } ∷ []
     → late ≡ (if sweep then [] else s.deferred) → flags ≡ flags_begun s process

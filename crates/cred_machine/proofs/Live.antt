@@ -14,7 +14,7 @@ use Rattle.cred_event.specs.declared.answer.AbortCause.TheVariants.{Perm, Full}
 use Rattle.cred_event.specs.declared.answer.Answer.TheVariants.{Aborted, Acted, NoBroadcast}
 use Rattle.cred_model.specs.Casts.{waits_no_more}
 use Rattle.cred_model.specs.Dumpable.{differs, renewed}
-use Rattle.cred_model.specs.State.{State, SealedCred, Prepared, ProcessFlag, Task, Broadcast, Numbered, cast_of, numbered, task_of}
+use Rattle.cred_model.specs.State.{State, SealedCred, Prepared, ProcessFlag, Task, Broadcast, Numbered, broadcast_of, numbered, task_of}
 use Rattle.cred_model.specs.Change.{by_rule}
 use Rattle.cred_model.specs.Like.{IsLike}
 use Rattle.cred_model.specs.Moves.{replaced, updated, with_current}
@@ -140,9 +140,9 @@ module _ (s : State) (sound : IsSound s) (task slot : ℕ) (owner : Task) (made 
   new_cred = record { cred = made; slot = slot }
 
   -- where the number that is sealed last stands, all others stand where they did
-  pub live_replaced : (casts : List Broadcast) (flags : List ProcessFlag) (k : ℕ)
-      → is_live (record (replaced s task owner.current made slot) { casts = casts; dumpable = flags }) k ≡ (is_live s k || (slot == k))
-  live_replaced casts flags k =
+  pub live_replaced : (broadcasts : List Broadcast) (flags : List ProcessFlag) (k : ℕ)
+      → is_live (record (replaced s task owner.current made slot) { broadcasts = broadcasts; dumpable = flags }) k ≡ (is_live s k || (slot == k))
+  live_replaced broadcasts flags k =
       let p = stands_in (s.creds ++ new_cred ∷ []) k in
       let new = length s.creds in
       let after = with_current s.tasks task new in
@@ -178,10 +178,10 @@ past s (Some x) refusal next answer after other is = (x, refl, is)
 pub record IsActed (s : State) (task slot : ℕ) (after : State) : Type 0 where
   pub owner : Task
   pub made : Credential
-  pub casts : List Broadcast
+  pub broadcasts : List Broadcast
   pub flags : List ProcessFlag
   pub lives : task_of s task ≡ Some owner
-  pub leads : after ≡ record (replaced s task owner.current made slot) { casts = casts; dumpable = flags }
+  pub leads : after ≡ record (replaced s task owner.current made slot) { broadcasts = broadcasts; dumpable = flags }
 
 abbrev task_in : Answer → ℕ
 task_in (Acted task cred slot left) = task
@@ -201,25 +201,25 @@ number_is creds n c is = by (slice_get creds n) is
 -- the state after a step that took this slot
 stepped : (s : State) (t : ℕ) (owner : Task) (old : Numbered) (c : Credential) (slot : ℕ) → State
 stepped s t owner old c slot =
-    record (replaced s t old.number c slot) { casts = waits_no_more t s.casts; dumpable = renewed s.dumpable owner.process (differs old.cred c) }
+    record (replaced s t old.number c slot) { broadcasts = waits_no_more t s.broadcasts; dumpable = renewed s.dumpable owner.process (differs old.cred c) }
 
-followed : (s after : State) (cast : Broadcast) (t : ℕ) (owner : Task) (old : Numbered) (task cred slot left : ℕ) (made : Result Credential Answer)
-    → is_some (least_free s) ≡ true → follow s cast t owner old made ≡ (Acted task cred slot left, after)
+followed : (s after : State) (broadcast : Broadcast) (t : ℕ) (owner : Task) (old : Numbered) (task cred slot left : ℕ) (made : Result Credential Answer)
+    → is_some (least_free s) ≡ true → follow s broadcast t owner old made ≡ (Acted task cred slot left, after)
     → (c : Credential) × (t ≡ task) × (after ≡ stepped s t owner old c slot)
 unfolding stepped
-followed s after cast t owner old task cred slot left (Err e) some is =
+followed s after broadcast t owner old task cred slot left (Err e) some is =
     let never : Aborted t Perm ≡ Acted task cred slot left = ap (λ (g : Answer × State). g.0) is in cc
-followed s after cast t owner old task cred slot left (Ok c) some is = by (least_free s) refl
+followed s after broadcast t owner old task cred slot left (Ok c) some is = by (least_free s) refl
   where
     does : State → ℕ → Answer × State
-    does r place = (Acted t (length r.creds) place (length cast.waiting - 1), stepped r t owner old c place)
+    does r place = (Acted t (length r.creds) place (length broadcast.waiting - 1), stepped r t owner old c place)
 
     by : (o : Option ℕ) → least_free s ≡ o
         → (c' : Credential) × (t ≡ task) × (after ≡ stepped s t owner old c' slot)
     by None none = let never : false ≡ true = ap (λ (o : Option ℕ). is_some o) (sym none) ∙ some in cc
     by (Some place) at =
         let here : free s ≡ Some place = sym (free_now s (least_free s) refl some) ∙ at in
-        let full : State → Answer × State = λ r. (Aborted t Full, aborted cast r) in
+        let full : State → Answer × State = λ r. (Aborted t Full, aborted broadcast r) in
         let made : does s place ≡ (Acted task cred slot left, after)
         = sym (in_free s full does false place here (sym (ap not some))) ∙ is in
         let same : place ≡ slot = ap (λ (g : Answer × State). slot_in g.0) made in (
@@ -234,7 +234,7 @@ unfolding stepped
 acted s after number task cred slot left some is =
     let answer = Acted task cred slot left in
     let refusal = NoBroadcast number in
-    let a = past s (cast_of s number) refusal _ answer after (λ same. cc) is in
+    let a = past s (broadcast_of s number) refusal _ answer after (λ same. cc) is in
     let b = past s (slice_get a.0.waiting 0) refusal _ answer after (λ same. cc) a.2 in
     let c = past s (task_of s b.0) refusal _ answer after (λ same. cc) b.2 in
     let d = past s (numbered s.creds c.0.current) refusal _ answer after (λ same. cc) c.2 in
@@ -243,18 +243,18 @@ acted s after number task cred slot left some is =
     record {
       owner = c.0;
       made = e.0;
-      casts = waits_no_more b.0 s.casts;
+      broadcasts = waits_no_more b.0 s.broadcasts;
       flags = renewed s.dumpable c.0.process (differs d.0.cred e.0);
       lives = subst (λ (t : ℕ). task_of s t ≡ Some c.0) e.1 c.1;
       leads =
           e.2
           ∙ ap
           (λ (n : ℕ).
-          record (replaced s b.0 n e.0 slot) { casts = waits_no_more b.0 s.casts; dumpable = renewed s.dumpable c.0.process (differs d.0.cred e.0) })
+          record (replaced s b.0 n e.0 slot) { broadcasts = waits_no_more b.0 s.broadcasts; dumpable = renewed s.dumpable c.0.process (differs d.0.cred e.0) })
           own
           ∙ ap
           (λ (t : ℕ).
-          record (replaced s t c.0.current e.0 slot) { casts = waits_no_more b.0 s.casts; dumpable = renewed s.dumpable c.0.process (differs d.0.cred e.0) })
+          record (replaced s t c.0.current e.0 slot) { broadcasts = waits_no_more b.0 s.broadcasts; dumpable = renewed s.dumpable c.0.process (differs d.0.cred e.0) })
           e.1;
     }
 
@@ -262,7 +262,7 @@ acted s after number task cred slot left some is =
 pub live_acted : (s after : State) → IsSound s → (task slot : ℕ) → IsActed s task slot after → (k : ℕ) → is_live after k ≡ (is_live s k || (slot == k))
 live_acted s after sound task slot step k =
     ap (λ (t : State). is_live t k) step.leads
-    ∙ live_replaced s sound task slot step.owner step.made step.lives step.casts step.flags k
+    ∙ live_replaced s sound task slot step.owner step.made step.lives step.broadcasts step.flags k
 
 found_unswept : (found sweep : Bool) → sweep ≡ not found → sweep ≡ false → found ≡ true
 found_unswept true sweep is unswept = refl
@@ -281,13 +281,13 @@ known_after s after sound number answer marks sweep (Some now) live is gives tak
 
 -- so it is after an id call
 pub known_opened : (s after : State) → IsSound s → (task old slot : ℕ) (made : Credential)
-    (marks : List Bool) (sweep : Bool) (casts : List Broadcast) (flags : List ProcessFlag)
+    (marks : List Bool) (sweep : Bool) (broadcasts : List Broadcast) (flags : List ProcessFlag)
     (known : Option (List Bool)) → AreLive marks s → IsCurrentOf s task old
-    → after ≡ replaced (swept_if sweep (record s { casts = casts })) task old made slot
+    → after ≡ replaced (swept_if sweep (record s { broadcasts = broadcasts })) task old made slot
     → IfSome known (λ now. (sweep ≡ false) × HasTaken marks slot now)
     → IfSome known (λ now. AreLive now (record after { dumpable = flags }))
-known_opened s after sound task old slot made marks sweep casts flags None live own leads takes = tt
-known_opened s after sound task old slot made marks sweep casts flags (Some now) live own leads takes =
+known_opened s after sound task old slot made marks sweep broadcasts flags None live own leads takes = tt
+known_opened s after sound task old slot made marks sweep broadcasts flags (Some now) live own leads takes =
     at (task_of s task) refl own
   where
     at : (o : Option Task) → task_of s task ≡ o → option_map (λ t. t.current) o ≡ Some old
@@ -296,15 +296,15 @@ known_opened s after sound task old slot made marks sweep casts flags (Some now)
     at (Some owner) lives is = λ k h.
         let current : owner.current ≡ old = cc in
         let to : after
-        ≡ record (replaced s task owner.current made slot) { casts = casts; dumpable = s.dumpable }
+        ≡ record (replaced s task owner.current made slot) { broadcasts = broadcasts; dumpable = s.dumpable }
         = leads
-        ∙ ap (λ b. replaced (swept_if b (record s { casts = casts })) task old made slot) takes.0
-        ∙ ap (λ (n : ℕ). record (replaced s task n made slot) { casts = casts }) (sym current) in
+        ∙ ap (λ b. replaced (swept_if b (record s { broadcasts = broadcasts })) task old made slot) takes.0
+        ∙ ap (λ (n : ℕ). record (replaced s task n made slot) { broadcasts = broadcasts }) (sym current) in
         takes.1 k h
         ∙ ap (λ b. b || (slot == k)) (live k h)
         ∙ sym
         (ap (λ (t : State). is_live (record t { dumpable = flags }) k) to
-        ∙ live_replaced s sound task slot owner made lives casts flags k)
+        ∙ live_replaced s sound task slot owner made lives broadcasts flags k)
 
 -- where a credential stands, by the list of slots
 stands_by : (creds : List SealedCred) (slot n : ℕ) → stands_in creds slot n ≡ option_map_or (λ k. k == slot) (slice_get (slots_of creds) n) false

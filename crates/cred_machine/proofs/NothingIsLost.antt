@@ -20,7 +20,7 @@ use Rattle.cred_event.specs.declared.event.Event.TheVariants.{Begin, Act, OpenFi
 use Rattle.cred_event.specs.declared.event.Event.TheVariants.{SetAttr, Stat, Raw}
 use Rattle.cred_event.specs.declared.event.Mode.{Mode}
 use Rattle.cred_model.specs.Answers.{checked}
-use Rattle.cred_model.specs.Casts.{dropped, joined, others_of, waits_no_more, with_cast}
+use Rattle.cred_model.specs.Casts.{dropped, joined, others_of, waits_no_more, with_broadcast}
 use Rattle.cred_model.specs.Change.{by_change, by_rule}
 use Rattle.cred_model.specs.FileChanges.{changed_by}
 use Rattle.cred_model.specs.Dumpable.{differs, flag_of_value, flags_begun, flags_left, is_dumpable, renewed, set_flag, with_process_flag, without_flag}
@@ -29,7 +29,7 @@ use Rattle.cred_model.specs.Moves.{created, first_task, preparing, replaced, tab
 use Rattle.cred_model.specs.Named.{change_files}
 use Rattle.cred_model.specs.Ptrace.{may_trace}
 use Rattle.cred_model.specs.Script.{Script, chain_of, reaches, root_of}
-use Rattle.cred_model.specs.State.{State, Task, Broadcast, Prepared, Numbered, begun_by, cast_in, cast_of, credential_of, held_by, hold_of, info_of, numbered}
+use Rattle.cred_model.specs.State.{State, Task, Broadcast, Prepared, Numbered, begun_by, broadcast_in, broadcast_of, credential_of, held_by, hold_of, info_of, numbered}
 use Rattle.cred_model.specs.State.{open_of, opener_of, prepared_of, task_of}
 use Rattle.cred_model.specs.Step.{aborted, by_file, by_raw, by_stat, follow, for_access, for_task, outcome, step}
 use Rattle.cred_sound.specs.Sound.{IsSound}
@@ -49,7 +49,7 @@ init_keeps script s line task process user group ns =
     let Q = Keeps s in
     let c = first_credential user group ns (root_of script ns) in
     outcome_has Q s _ (refused s)
-    (if_idle Q (cast_in s process) _
+    (if_idle Q (broadcast_in s process) _
     (λ idle. if_none Q (task_of s task) _ _
     (λ new. if_fewer Q (length s.tasks) TASKS _ _
     (in_slots Q s table_full
@@ -167,57 +167,57 @@ begin_keeps script s line task call sound =
     outcome_has Q s _ (refused s)
     (if_some Q (task_of s task) _ _
     (λ owner found. if_some Q (numbered s.creds owner.current) _ _
-    (λ old at. if_idle Q (cast_in s owner.process) _
-    (λ idle. if_none Q (cast_of s line) _ _
+    (λ old at. if_idle Q (broadcast_in s owner.process) _
+    (λ idle. if_none Q (broadcast_of s line) _ _
     (λ unused. if_own Q owner _
     (if_rule Q (set_id old.cred call) _
     (λ new ruled.
     let others = others_of owner s.tasks in
-    let cast : Broadcast = record { number = line; process = owner.process; caller = task; call = call; waiting = others } in
+    let broadcast : Broadcast = record { number = line; process = owner.process; caller = task; call = call; waiting = others } in
     in_slots Q s table_full
     (λ s slot. (
       Began (length s.creds) slot (length others),
-      record (replaced s task old.number new slot) { casts = with_cast s.casts cast; dumpable = renewed s.dumpable owner.process (differs old.cred new) },
+      record (replaced s task old.number new slot) { broadcasts = with_broadcast s.broadcasts broadcast; dumpable = renewed s.dumpable owner.process (differs old.cred new) },
     ))
     (full s)
     (λ left slot is.
     let answer = Began (length s.creds) slot (length others) in
-    let t = record (replaced (with_left s left) task old.number new slot) { casts = with_cast s.casts cast } in
+    let t = record (replaced (with_left s left) task old.number new slot) { broadcasts = with_broadcast s.broadcasts broadcast } in
     with_flags s t answer (renewed s.dumpable owner.process (differs old.cred new))
-    (replaces s answer left task slot owner old new (with_cast s.casts cast) sound found at (if_left_one s left old.number is))))))))))
+    (replaces s answer left task slot owner old new (with_broadcast s.broadcasts broadcast) sound found at (if_left_one s left old.number is))))))))))
 
-follow_keeps : (s : State) (cast : Broadcast) (task : ℕ) (owner : Task) (old : Numbered) (made : Result Credential Denial) → IsSound s
-    → task_of s task ≡ Some owner → numbered s.creds owner.current ≡ Some old → Keeps s (follow s cast task owner old (by_rule made))
-follow_keeps s cast task owner old (Err refusal) sound found at =
+follow_keeps : (s : State) (broadcast : Broadcast) (task : ℕ) (owner : Task) (old : Numbered) (made : Result Credential Denial) → IsSound s
+    → task_of s task ≡ Some owner → numbered s.creds owner.current ≡ Some old → Keeps s (follow s broadcast task owner old (by_rule made))
+follow_keeps s broadcast task owner old (Err refusal) sound found at =
     let answer = Aborted task cause.Perm in
-    let t = record (ended (is_thread_of cast.process) s) { casts = dropped cast.process s.casts } in
-    with_flags s t answer (without_flag s.dumpable cast.process) (ends_some s answer s.deferred (is_thread_of cast.process) _ (inl refl))
-follow_keeps s cast task owner old (Ok new) sound found at =
-    let left_waiting = length cast.waiting - 1 in
-    in_slots (Keeps s) s (λ now. (Aborted task cause.Full, aborted cast now))
+    let t = record (ended (is_thread_of broadcast.process) s) { broadcasts = dropped broadcast.process s.broadcasts } in
+    with_flags s t answer (without_flag s.dumpable broadcast.process) (ends_some s answer s.deferred (is_thread_of broadcast.process) _ (inl refl))
+follow_keeps s broadcast task owner old (Ok new) sound found at =
+    let left_waiting = length broadcast.waiting - 1 in
+    in_slots (Keeps s) s (λ now. (Aborted task cause.Full, aborted broadcast now))
     (λ now slot. (
       Acted task (length now.creds) slot left_waiting,
-      record (replaced now task old.number new slot) { casts = waits_no_more task now.casts; dumpable = renewed now.dumpable owner.process (differs old.cred new) },
+      record (replaced now task old.number new slot) { broadcasts = waits_no_more task now.broadcasts; dumpable = renewed now.dumpable owner.process (differs old.cred new) },
     ))
     (λ left is.
     let answer = Aborted task cause.Full in
-    let t = record (ended (is_thread_of cast.process) (with_left s left)) { casts = dropped cast.process s.casts } in
-    with_flags s t answer (without_flag s.dumpable cast.process) (ends_some s answer left (is_thread_of cast.process) _ (inr (λ after. refl))))
+    let t = record (ended (is_thread_of broadcast.process) (with_left s left)) { broadcasts = dropped broadcast.process s.broadcasts } in
+    with_flags s t answer (without_flag s.dumpable broadcast.process) (ends_some s answer left (is_thread_of broadcast.process) _ (inr (λ after. refl))))
     (λ left slot is.
     let answer = Acted task (length s.creds) slot left_waiting in
-    let t = record (replaced (with_left s left) task old.number new slot) { casts = waits_no_more task s.casts } in
+    let t = record (replaced (with_left s left) task old.number new slot) { broadcasts = waits_no_more task s.broadcasts } in
     with_flags s t answer (renewed s.dumpable owner.process (differs old.cred new))
-    (replaces s answer left task slot owner old new (waits_no_more task s.casts) sound found at (if_left_one s left old.number is)))
+    (replaces s answer left task slot owner old new (waits_no_more task s.broadcasts) sound found at (if_left_one s left old.number is)))
 
 act_keeps : (script : Script) (s : State) (line number : ℕ) → IsSound s → Keeps s (step script s line (Act number))
 act_keeps script s line number sound =
     let Q = Keeps s in
     outcome_has Q s _ (refused s)
-    (if_some Q (cast_of s number) _ _
-    (λ cast opened. if_some Q (slice_get cast.waiting 0) _ _
+    (if_some Q (broadcast_of s number) _ _
+    (λ broadcast opened. if_some Q (slice_get broadcast.waiting 0) _ _
     (λ task first. if_some Q (task_of s task) _ _
     (λ owner found. if_some Q (numbered s.creds owner.current) _ _
-    (λ old at. follow_keeps s cast task owner old (set_id old.cred cast.call) sound found at)))))
+    (λ old at. follow_keeps s broadcast task owner old (set_id old.cred broadcast.call) sound found at)))))
 
 spawn_keeps : (script : Script) (s : State) (line task child : ℕ) → Keeps s (step script s line (Spawn task child))
 spawn_keeps script s line task child =
@@ -229,7 +229,7 @@ spawn_keeps script s line task child =
     (λ idle. if_none Q (task_of s child) _ _
     (λ new. if_own Q owner _
     (if_fewer Q (length s.tasks) TASKS _ _
-    (shares s (Sealed parent.number parent.slot) (first_task child owner.process parent.number) (joined task child s.casts))))))))
+    (shares s (Sealed parent.number parent.slot) (first_task child owner.process parent.number) (joined task child s.broadcasts))))))))
 
 fork_keeps : (script : Script) (s : State) (line task child process : ℕ) → Keeps s (step script s line (Fork task child process))
 fork_keeps script s line task child process =
@@ -243,9 +243,9 @@ fork_keeps script s line task child process =
     (λ unused. if_own Q owner _
     (if_fewer Q (length s.tasks) TASKS _ _
     (let answer = Sealed parent.number parent.slot in
-    let t = record s { tasks = s.tasks ++ first_task child process parent.number ∷ []; casts = s.casts } in
+    let t = record s { tasks = s.tasks ++ first_task child process parent.number ∷ []; broadcasts = s.broadcasts } in
     with_flags s t answer (with_process_flag s.dumpable process (is_dumpable s.dumpable owner.process))
-    (shares s answer (first_task child process parent.number) s.casts)))))))))
+    (shares s answer (first_task child process parent.number) s.broadcasts)))))))))
 
 exit_keeps : (script : Script) (s : State) (line task : ℕ) → Keeps s (step script s line (Exit task))
 exit_keeps script s line task =
@@ -254,8 +254,8 @@ exit_keeps script s line task =
     (if_some Q (task_of s task) _ _
     (λ owner is. if_idle Q (begun_by s task) _
     (λ idle. if_own Q owner _
-    (let t = record (ended (is_task task) s) { casts = waits_no_more task s.casts } in
-    with_flags s t Done (flags_left s owner) (ends_some s Done s.deferred (is_task task) (waits_no_more task s.casts) (inl refl))))))
+    (let t = record (ended (is_task task) s) { broadcasts = waits_no_more task s.broadcasts } in
+    with_flags s t Done (flags_left s owner) (ends_some s Done s.deferred (is_task task) (waits_no_more task s.broadcasts) (inl refl))))))
 
 dumpable_keeps : (script : Script) (s : State) (line task value : ℕ) → Keeps s (step script s line (Dumpable task value))
 dumpable_keeps script s line task value =
@@ -306,7 +306,7 @@ raw_keeps s task call sound =
     outcome_has Q s _ (λ answer. refused s (as_begun answer))
     (if_some Q (task_of s task) _ _
     (λ owner found. if_some Q (numbered s.creds owner.current) _ _
-    (λ old at. if_idle Q (cast_in s owner.process) _
+    (λ old at. if_idle Q (broadcast_in s owner.process) _
     (λ idle. if_own Q owner _
     (if_rule Q (set_id old.cred call) _
     (λ new ruled.
@@ -316,9 +316,9 @@ raw_keeps s task call sound =
     (full s)
     (λ left slot is.
     let answer = Began (length s.creds) slot 0 in
-    let t = record (replaced (with_left s left) task old.number new slot) { casts = s.casts } in
+    let t = record (replaced (with_left s left) task old.number new slot) { broadcasts = s.broadcasts } in
     with_flags s t answer (renewed s.dumpable owner.process (differs old.cred new))
-    (replaces s answer left task slot owner old new s.casts sound found at (if_left_one s left old.number is)))))))))
+    (replaces s answer left task slot owner old new s.broadcasts sound found at (if_left_one s left old.number is)))))))))
 
 -- with the answer by which an event counts
 abbrev pub counted : Event → Answer × State → Answer × State

@@ -1,7 +1,7 @@
 -- What contracts see of a state and of what stands in it, by the fields of the code, and what was found there.
 use Rattle.std.proofs.Common.{◌≡◌, ℕ, Bool, List, find, get_or, position, slice_get, Some, sym, ap, ◌∙◌}
 use Rattle.cred_model.specs.State.{State, Task, Broadcast, Prepared}
-use Rattle.cred_plain.specs.declared.casts.Cast.TheInside as cast
+use Rattle.cred_plain.specs.declared.casts.Cast.TheInside as broadcast
 use Rattle.cred_plain.specs.declared.labels.Prepared.TheInside as prepared
 use Rattle.cred_plain.specs.declared.one_task.Task.TheInside as task
 use Rattle.cred_plain.proofs.Places.{at_place}
@@ -10,7 +10,7 @@ use Rattle.cred_machine.specs.declared.state.State.TheInside as state
 abbrev pub seen_state : state.Inside → State
 seen_state s = record {
   tasks = s.tasks;
-  casts = s.casts.items;
+  broadcasts = s.broadcasts.items;
   files = s.files.items;
   holds = s.holds.items;
   prepared = s.prepared.items;
@@ -23,8 +23,8 @@ seen_state s = record {
 abbrev pub seen_task : task.Inside → Task
 seen_task t = record { number = t.number; process = t.process; current = t.current; overrides = t.overrides.items }
 
-abbrev pub seen_cast : cast.Inside → Broadcast
-seen_cast b = record { number = b.number; process = b.process; caller = b.caller; call = b.call; waiting = b.waiting.items }
+abbrev pub seen_broadcast : broadcast.Inside → Broadcast
+seen_broadcast b = record { number = b.number; process = b.process; caller = b.caller; call = b.call; waiting = b.waiting.items }
 
 abbrev pub seen_prepared : prepared.Inside → Prepared
 seen_prepared p = record { label = p.label; task = p.task; base = p.base; slot = p.slot; changed = p.changed }

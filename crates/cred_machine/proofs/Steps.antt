@@ -20,7 +20,7 @@ use Rattle.cred_machine.specs.Room.{IsCurrentOf, sealed_for, swept_if}
 use Rattle.cred_machine.proofs.Acts.{IsNext}
 use Rattle.cred_machine.proofs.Follows.{steps}
 use Rattle.cred_machine.proofs.Live.{number_is}
-use Rattle.cred_machine.proofs.Threads.{are_casts}
+use Rattle.cred_machine.proofs.Threads.{are_broadcasts}
 
 -- the credential that was found is the task's current one
 pub current_of : (s : State) (task : ℕ) (owner : Task) (old : Numbered)
@@ -53,10 +53,10 @@ module _ (s : State) (old : ℕ) (made : Credential) (slot : ℕ) where
   tasks_stay true after is = ap (λ (t : State). t.tasks) is
   tasks_stay false after is = ap (λ (t : State). t.tasks) is
 
-  pub casts_stay : (sweep : Bool) (after : State)
-      → after ≡ sealed_for (swept_if sweep s) old made slot → after.casts ≡ s.casts
-  casts_stay true after is = ap (λ (t : State). t.casts) is
-  casts_stay false after is = ap (λ (t : State). t.casts) is
+  pub broadcasts_stay : (sweep : Bool) (after : State)
+      → after ≡ sealed_for (swept_if sweep s) old made slot → after.broadcasts ≡ s.broadcasts
+  broadcasts_stay true after is = ap (λ (t : State). t.broadcasts) is
+  broadcasts_stay false after is = ap (λ (t : State). t.broadcasts) is
 
   -- and then the task is given it
   pub replaces : (sweep : Bool) (after : State) (task number : ℕ) (tasks : List Task)
@@ -90,32 +90,32 @@ module _ (s : State) (old : ℕ) (made : Credential) (slot : ℕ) where
         subst (λ (ts : List Task). AllPairs (λ a b. a.number ≢ b.number) ts)
         (sym (tasks_stay sweep after is)) sound.tasks
 
-    pub casts_still : AreWaitedFor after.casts
-    casts_still =
-        subst (λ (cs : List Broadcast). AreWaitedFor cs) (sym (casts_stay sweep after is))
-        (are_casts s sound)
+    pub broadcasts_still : AreWaitedFor after.broadcasts
+    broadcasts_still =
+        subst (λ (cs : List Broadcast). AreWaitedFor cs) (sym (broadcasts_stay sweep after is))
+        (are_broadcasts s sound)
 
 -- a thread's step, with the credential at its task's place
-module _ (s : State) (sound : IsSound s) (number task cast_at : ℕ) (cast : Broadcast)
-    (owner : Task) (old : Numbered) (next : IsNext s number task cast_at cast owner old)
-    (made : Credential) (rule : set_id old.cred cast.call ≡ Ok made) where
-  pub steps_there : (after : State) (tasks : List Task) (casts : List Broadcast)
+module _ (s : State) (sound : IsSound s) (number task broadcast_at : ℕ) (broadcast : Broadcast)
+    (owner : Task) (old : Numbered) (next : IsNext s number task broadcast_at broadcast owner old)
+    (made : Credential) (rule : set_id old.cred broadcast.call ≡ Ok made) where
+  pub steps_there : (after : State) (tasks : List Task) (broadcasts : List Broadcast)
       (flags : List ProcessFlag) (other sweep : Bool) (slot left given at : ℕ) → free s ≡ Some slot → sweep ≡ not (is_some (least_free s))
-      → left + 1 ≡ length cast.waiting → given ≡ length s.creds → IsTaskAt s.tasks task at
+      → left + 1 ≡ length broadcast.waiting → given ≡ length s.creds → IsTaskAt s.tasks task at
       → after ≡ sealed_for (swept_if sweep s) old.number made slot
       → (AllPairs (λ a b. a.number ≢ b.number) after.tasks
       → IfSome (slice_get after.tasks at) (λ t. tasks ≡ with_current after.tasks t.number given))
-      → casts ≡ waits_no_more task after.casts
+      → broadcasts ≡ waits_no_more task after.broadcasts
       → other ≡ differs old.cred made → flags ≡ renewed after.dumpable owner.process other
       → outcome s (by_act s number)
-      ≡ (Acted task given slot left, record after { tasks = tasks; casts = casts; dumpable = flags })
-  steps_there after tasks casts flags other sweep slot left given at is for many counted stands leads
+      ≡ (Acted task given slot left, record after { tasks = tasks; broadcasts = broadcasts; dumpable = flags })
+  steps_there after tasks broadcasts flags other sweep slot left given at is for many counted stands leads
       set cs ids fs =
       let n = old.number in
       let current : tasks ≡ with_current after.tasks task given
       = set_there after.tasks tasks task given at
       (stands_still s n made slot sound sweep after leads task at stands)
       (set (apart_still s n made slot sound sweep after leads)) in
-      steps s number task cast_at cast owner old next made rule (record after { tasks = tasks })
-      casts flags other sweep slot left given is for many counted
+      steps s number task broadcast_at broadcast owner old next made rule (record after { tasks = tasks })
+      broadcasts flags other sweep slot left given is for many counted
       (replaces s n made slot sweep after task given tasks leads counted current) cs ids fs

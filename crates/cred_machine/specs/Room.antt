@@ -6,7 +6,7 @@ use Rattle.cred_event.specs.declared.answer.Answer.{Answer}
 use Rattle.cred_event.specs.declared.answer.Answer.TheVariants.{Began, Sealed}
 use Rattle.cred_model.specs.State.{State, Broadcast, task_of}
 use Rattle.cred_model.specs.Slots.{swept}
-use Rattle.cred_model.specs.Casts.{with_cast}
+use Rattle.cred_model.specs.Casts.{with_broadcast}
 use Rattle.cred_model.specs.Dumpable.{renewed}
 use Rattle.cred_model.specs.Moves.{replaced, sealed}
 
@@ -26,11 +26,11 @@ sealed_for s old c slot =
 -- What a call answers whose credential takes this slot, and the state after it, where an effective
 -- or a filesystem id of that is another one, or isn't.
 abbrev pub begun : State → Broadcast → ℕ → Credential → Bool → ℕ → Answer × State
-begun s cast old made other slot = (
-  Began (length s.creds) slot (length cast.waiting),
-  record (replaced s cast.caller old made slot) {
-    casts = with_cast s.casts cast;
-    dumpable = renewed s.dumpable cast.process other;
+begun s broadcast old made other slot = (
+  Began (length s.creds) slot (length broadcast.waiting),
+  record (replaced s broadcast.caller old made slot) {
+    broadcasts = with_broadcast s.broadcasts broadcast;
+    dumpable = renewed s.dumpable broadcast.process other;
   },
 )
 

@@ -39,7 +39,7 @@ pub record IsTidy (live : Option (List Bool)) (s : State) : Type 0 where
 -- the event is an id call or a thread's step
 abbrev pub takes_slot : Event → Bool
 takes_slot (Begin task call) = true
-takes_slot (Act cast) = true
+takes_slot (Act broadcast) = true
 takes_slot event = false
 
 -- The marks after it have this slot too.

@@ -124,7 +124,7 @@ impl State {
             Event::Override { task, label } => self.override_with(*task, *label),
             Event::Revert { task } => self.revert(*task),
             Event::Begin { task, call } => self.begin(live, line, *task, call),
-            Event::Act { cast } => self.act_knowing(live, *cast),
+            Event::Act { broadcast } => self.act_knowing(live, *broadcast),
             Event::OpenFile {
                 hold,
                 file,
@@ -162,17 +162,17 @@ impl State {
 
     /// A thread that waits in the broadcast makes its step. Which slots are live may be known
     /// before it and after it.
-    fn act_knowing(&mut self, live: &mut Option<Marks>, cast: u32) -> Result<Answer, NoMemory>
+    fn act_knowing(&mut self, live: &mut Option<Marks>, broadcast: u32) -> Result<Answer, NoMemory>
         requires sound { IsSound self.old }
         requires known { IfSome live.old (λ marks. AreLive marks self.old) }
         ensures ok { IfOk result (λ answer.
-            Gives self.old (by_act self.old cast) answer self.new) }
+            Gives self.old (by_act self.old broadcast) answer self.new) }
         ensures live { IfSome live.new (λ marks. AreLive marks self.new) }
         ensures err { OnErr result (self.new ≡ self.old) }
     {
         let mut marks = live_slots(self, live.take())?;
         let room = self.room_in(&mut marks)?;
-        let answer = self.act(cast, room)?;
+        let answer = self.act(broadcast, room)?;
         *live = live_after(marks, &answer, room.swept);
         Ok(answer)
     }

@@ -8,7 +8,7 @@
 mod cached;
 mod flags;
 mod machine;
-mod on_casts;
+mod on_broadcasts;
 mod on_files;
 mod on_infos;
 mod on_labels;

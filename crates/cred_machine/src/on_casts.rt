@@ -17,7 +17,9 @@ use crate::slots::{Marks, Room, defer_left, live_slots, make_room};
 use crate::state::{State, overridden};
 use cred_event::{AbortCause, Answer, Named};
 use cred_ids::NoMemory;
-use cred_plain::casts::{act, cast_of, cast_place, drop_cast, open_cast, open_in};
+use cred_plain::casts::{
+    act, broadcast_of, broadcast_place, drop_broadcast, open_broadcast, open_in,
+};
 use cred_plain::{Cast, Ending};
 use cred_ptrace::differs;
 use cred_record::{Cred, IdCall, Refusal, copy};
@@ -62,10 +64,10 @@ impl State {
             return Ok(Answer::NoTask(task));
         };
         let process = owner.process;
-        if let Some(cast) = open_in(&self.casts, process) {
-            return Ok(Answer::Busy(cast));
+        if let Some(broadcast) = open_in(&self.broadcasts, process) {
+            return Ok(Answer::Busy(broadcast));
         }
-        if cast_of(&self.casts, line).is_some() {
+        if broadcast_of(&self.broadcasts, line).is_some() {
             return Ok(Answer::Exists {
                 what: Named::Broadcast,
                 number: line,
@@ -82,14 +84,14 @@ impl State {
         };
         let other = differs(old.cred, &cred);
         let (number, waiting) = (old.number, self.tasks.others(process, task)?);
-        let cast = Cast {
+        let broadcast = Cast {
             number: line,
             process,
             caller: task,
             call: call.copy()?,
             waiting,
         };
-        self.open(live, cast, number, cred, other)
+        self.open(live, broadcast, number, cred, other)
     }
 
     /// The caller of a broadcast has made this credential of its current one, of this number. That
@@ -98,18 +100,18 @@ impl State {
     fn open(
         &mut self,
         live: &mut Option<Marks>,
-        cast: Cast,
+        broadcast: Cast,
         old: u64,
         cred: Cred,
         other: bool,
     ) -> Result<Answer, NoMemory>
-        requires waiting { length cast.waiting ≤ TASKS }
-        requires caller { IsCurrentOf self.old cast.caller old }
+        requires waiting { length broadcast.waiting ≤ TASKS }
+        requires caller { IsCurrentOf self.old broadcast.caller old }
         requires sound { IsSound self.old }
         requires known { IfSome live.old (λ marks. AreLive marks self.old) }
         ensures live { IfSome live.new (λ marks. AreLive marks self.new) }
         ensures ok { IfOk result (λ answer. in_slot self.old table_full
-            (λ s slot. begun s cast old cred other slot) ≡ (answer, self.new)) }
+            (λ s slot. begun s broadcast old cred other slot) ≡ (answer, self.new)) }
         ensures err { OnErr result (self.new ≡ self.old) }
     {
         let mut marks = live_slots(self, live.take())?;
@@ -117,14 +119,14 @@ impl State {
         let Some(slot) = slot else {
             return Ok(self.table_full());
         };
-        let (task, process) = (cast.caller, cast.process);
-        let left = cast.waiting.len() as u32;
-        let before = self.casts.len();
-        open_cast(&mut self.casts, cast)?;
+        let (task, process) = (broadcast.caller, broadcast.process);
+        let left = broadcast.waiting.len() as u32;
+        let before = self.broadcasts.len();
+        open_broadcast(&mut self.broadcasts, broadcast)?;
         let number = match self.replace(task, old, cred, slot, swept) {
             Ok(number) => number,
             Err(err) => {
-                self.casts.truncate(before);
+                self.broadcasts.truncate(before);
                 return Err(err);
             }
         };
@@ -149,11 +151,11 @@ impl State {
             Gives self.old (by_act self.old line) answer self.new) }
         ensures err { OnErr result (self.new ≡ self.old) }
     {
-        let Some(cast_at) = cast_place(&self.casts, line) else {
+        let Some(broadcast_at) = broadcast_place(&self.broadcasts, line) else {
             return Ok(Answer::NoBroadcast(line));
         };
-        let cast = &self.casts[cast_at];
-        let Some(task) = cast.least() else {
+        let broadcast = &self.broadcasts[broadcast_at];
+        let Some(task) = broadcast.least() else {
             return Ok(Answer::NoBroadcast(line));
         };
         let Some(task_at) = self.tasks.place(task) else {
@@ -163,9 +165,9 @@ impl State {
         let Some(current) = self.creds.get(owner.current) else {
             return Ok(Answer::NoBroadcast(line));
         };
-        let (process, left, number) = (cast.process, cast.others(), current.number);
+        let (process, left, number) = (broadcast.process, broadcast.others(), current.number);
         let own = owner.process;
-        let cred = match call_on_copy(self.alloc, current.cred, &cast.call) {
+        let cred = match call_on_copy(self.alloc, current.cred, &broadcast.call) {
             Ok(cred) => cred,
             // Whether a call is valid is the call's alone, and its caller has made it: what the
             // thread lacks is the right.
@@ -180,7 +182,7 @@ impl State {
         };
         let cred = self.seal(number, cred, slot, room.swept)?;
         self.tasks.set_current_at(task_at, cred);
-        act(&mut self.casts, cast_at, task);
+        act(&mut self.broadcasts, broadcast_at, task);
         self.dump.renew(own, other);
         Ok(Answer::Acted {
             task,
@@ -232,15 +234,15 @@ impl State {
         cause: AbortCause,
     ) -> Result<Answer, NoMemory>
         ensures answer { IfOk result (λ answer. answer ≡ Aborted task cause) }
-        ensures state { OnOk result ((cast : Broadcast) → cast.process ≡ process
-            → self.new ≡ aborted cast (at_abort cause self.old)) }
+        ensures state { OnOk result ((broadcast : Broadcast) → broadcast.process ≡ process
+            → self.new ≡ aborted broadcast (at_abort cause self.old)) }
         ensures err { OnErr result (self.new ≡ self.old) }
     {
         let swept = matches!(cause, AbortCause::Full);
         let ending = Ending::Process(process);
         defer_left(&mut self.deferred, swept, &self.tasks, ending)?;
         self.tasks.end(ending);
-        drop_cast(&mut self.casts, process);
+        drop_broadcast(&mut self.broadcasts, process);
         self.dump.gone(process);
         Ok(Answer::Aborted { task, cause })
     }

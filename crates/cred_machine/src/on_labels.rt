@@ -4,7 +4,7 @@ ghost use Rattle.cred_model.specs.Like.{Gives};
 ghost use Rattle.cred_model.specs.Step.{by_abort, by_alter, by_ask, by_commit, by_prepare};
 ghost use Rattle.cred_model.specs.Step.{by_release, by_signal, by_take, take_hold};
 ghost use Rattle.cred_model.specs.Moves.{given_up};
-ghost use Rattle.cred_model.specs.Casts.{casts_left};
+ghost use Rattle.cred_model.specs.Casts.{broadcasts_left};
 ghost use Rattle.cred_model.specs.State.{numbered_in};
 ghost use Rattle.cred_sound.specs.Sound.{IsSound};
 ghost use Rattle.cred_machine.specs.Labels.{CanCommit, Commits};
@@ -18,7 +18,7 @@ use cred_decide::{Made, change as change_of, committed_by, reply};
 use cred_declared::{asked_file, chain_of, executed_file};
 use cred_event::{Answer, Change, Counted, Named, Query, Side};
 use cred_ids::{NoMemory, limits};
-use cred_plain::casts::{begun_by, drop_cast};
+use cred_plain::casts::{begun_by, drop_broadcast};
 use cred_plain::labels::{change_at, hold_of, hold_place, prepared_of, prepared_place};
 use cred_plain::{Cast, Changed, Ending, Hold, Numbered, Prepared};
 use cred_record::copy;
@@ -121,8 +121,8 @@ impl State {
         if !self.tasks.alive(task) {
             return Ok(Answer::NoTask(task));
         }
-        if let Some(cast) = begun_by(&self.casts, task) {
-            return Ok(Answer::Busy(cast));
+        if let Some(broadcast) = begun_by(&self.broadcasts, task) {
+            return Ok(Answer::Busy(broadcast));
         }
         let Some(held) = hold_of(&self.holds, hold) else {
             return Ok(Answer::NoHold(hold));
@@ -211,8 +211,8 @@ impl State {
         let Some(owner) = self.tasks.get(own.task) else {
             return Ok(Answer::NoTask(own.task));
         };
-        if let Some(cast) = begun_by(&self.casts, own.task) {
-            return Ok(Answer::Busy(cast));
+        if let Some(broadcast) = begun_by(&self.broadcasts, own.task) {
+            return Ok(Answer::Busy(broadcast));
         }
         if let Some(depth) = overridden(owner) {
             return Ok(Answer::Overridden(depth));
@@ -259,7 +259,7 @@ impl State {
         let cred = copy(&last.cred)?;
         make_room(&mut self.creds, &mut self.deferred, false, &numbers)?;
         self.tasks.end(ending);
-        drop_with(&mut self.casts, last.change, process);
+        drop_with(&mut self.broadcasts, last.change, process);
         let number = self.creds.seal(cred, slot);
         self.tasks.set_current(task, number);
         self.dump.commit(last.change, &last.gains, process, other);
@@ -308,10 +308,10 @@ fn ends_with(change: Change, process: u32, task: u32) -> Ending
 }
 
 /// The process's broadcast is dropped where one of its threads commits an execve (execve(2)).
-fn drop_with(casts: &mut Vec<Cast>, change: Change, process: u32)
-    ensures { casts.new.items ≡ casts_left change process casts.old.items }
+fn drop_with(broadcasts: &mut Vec<Cast>, change: Change, process: u32)
+    ensures { broadcasts.new.items ≡ broadcasts_left change process broadcasts.old.items }
 {
     if let Change::Exec { .. } = change {
-        drop_cast(casts, process);
+        drop_broadcast(broadcasts, process);
     }
 }

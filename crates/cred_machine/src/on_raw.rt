@@ -6,7 +6,7 @@ ghost use Rattle.cred_model.specs.Moves.{in_slot, table_full};
 ghost use Rattle.cred_model.specs.Step.{by_raw};
 ghost use Rattle.cred_machine.specs.Room.{called_alone};
 
-use crate::on_casts::call_on_copy;
+use crate::on_broadcasts::call_on_copy;
 use crate::slots::Room;
 use crate::state::{State, overridden};
 use cred_event::Answer;
@@ -30,8 +30,8 @@ impl State {
             return Ok(Answer::NoTask(task));
         };
         let process = owner.process;
-        if let Some(cast) = open_in(&self.casts, process) {
-            return Ok(Answer::Busy(cast));
+        if let Some(broadcast) = open_in(&self.broadcasts, process) {
+            return Ok(Answer::Busy(broadcast));
         }
         if let Some(depth) = overridden(owner) {
             return Ok(Answer::Overridden(depth));

@@ -30,8 +30,8 @@ impl State {
             Gives self.old (by_init self.old number process user group ns root) answer self.new) }
         ensures err { OnErr result (self.new ≡ self.old) }
     {
-        if let Some(cast) = open_in(&self.casts, process) {
-            return Ok(Answer::Busy(cast));
+        if let Some(broadcast) = open_in(&self.broadcasts, process) {
+            return Ok(Answer::Busy(broadcast));
         }
         if self.tasks.alive(number) {
             return Ok(Answer::Exists {
@@ -70,8 +70,8 @@ impl State {
         let Some(Numbered { number, slot, .. }) = self.creds.get(owner.current) else {
             return Ok(Answer::NoTask(task));
         };
-        if let Some(cast) = begun_by(&self.casts, task) {
-            return Ok(Answer::Busy(cast));
+        if let Some(broadcast) = begun_by(&self.broadcasts, task) {
+            return Ok(Answer::Busy(broadcast));
         }
         if self.tasks.alive(child) {
             return Ok(Answer::Exists {
@@ -87,7 +87,7 @@ impl State {
         }
         let thread = Task::first(self.alloc, child, owner.process, number);
         self.tasks.push(thread)?;
-        if let Err(err) = join(&mut self.casts, task, child) {
+        if let Err(err) = join(&mut self.broadcasts, task, child) {
             self.tasks.pop();
             return Err(err);
         }
@@ -108,8 +108,8 @@ impl State {
         let Some(Numbered { number, slot, .. }) = self.creds.get(owner.current) else {
             return Ok(Answer::NoTask(task));
         };
-        if let Some(cast) = begun_by(&self.casts, task) {
-            return Ok(Answer::Busy(cast));
+        if let Some(broadcast) = begun_by(&self.broadcasts, task) {
+            return Ok(Answer::Busy(broadcast));
         }
         if self.tasks.alive(child) {
             return Ok(Answer::Exists {
@@ -146,8 +146,8 @@ impl State {
         let Some(owner) = self.tasks.get(task) else {
             return Ok(Answer::NoTask(task));
         };
-        if let Some(cast) = begun_by(&self.casts, task) {
-            return Ok(Answer::Busy(cast));
+        if let Some(broadcast) = begun_by(&self.broadcasts, task) {
+            return Ok(Answer::Busy(broadcast));
         }
         if let Some(depth) = overridden(owner) {
             return Ok(Answer::Overridden(depth));
@@ -157,7 +157,7 @@ impl State {
         let ending = Ending::Task(task);
         defer_left(&mut self.deferred, false, &self.tasks, ending)?;
         self.tasks.end(ending);
-        leave(&mut self.casts, task);
+        leave(&mut self.broadcasts, task);
         self.dump.leave(process, other);
         Ok(Answer::Done)
     }

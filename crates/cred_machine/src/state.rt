@@ -29,7 +29,7 @@ use std::marker::Model;
 #[derive(Drop)]
 pub struct State {
     pub(crate) tasks: Tasks,
-    pub(crate) casts: Vec<Cast>,
+    pub(crate) broadcasts: Vec<Cast>,
     pub(crate) files: Vec<OpenFile>,
     pub(crate) holds: Vec<Hold>,
     pub(crate) prepared: Vec<Prepared>,
@@ -47,7 +47,7 @@ impl Model for State {
 
     ghost view = { λ s. record {
       tasks = s.tasks;
-      casts = s.casts.items;
+      broadcasts = s.broadcasts.items;
       files = s.files.items;
       holds = s.holds.items;
       prepared = s.prepared.items;
@@ -69,7 +69,7 @@ impl State {
     {
         Ok(State {
             tasks: Tasks::new(alloc),
-            casts: Vec::new(alloc),
+            broadcasts: Vec::new(alloc),
             files: Vec::new(alloc),
             holds: Vec::new(alloc),
             prepared: Vec::new(alloc),

@@ -33,7 +33,7 @@ use Rattle.cred_event.specs.declared.event.Event.TheVariants.{SetAttr, Stat, Raw
 use Rattle.cred_model.specs.Script.{Script, chain_of, root_of, reaches}
 use Rattle.cred_model.specs.Named.{change_files}
 use Rattle.cred_model.specs.State.{State, SealedCred, Task, Broadcast, OpenFile as Open, Hold, Prepared, Changed, ProcessFlag, Numbered, numbered, task_of}
-use Rattle.cred_model.specs.State.{cast_of, cast_in, begun_by, open_of, hold_of, prepared_of, held_by, info_of}
+use Rattle.cred_model.specs.State.{broadcast_of, broadcast_in, begun_by, open_of, hold_of, prepared_of, held_by, info_of}
 use Rattle.cred_model.specs.Slots.{swept}
 use Rattle.cred_model.specs.Ptrace.{may_trace}
 use Rattle.cred_model.specs.Dumpable.{is_dumpable, with_process_flag, set_flag, without_flag, differs, renewed, flags_by, flags_committed, flags_begun}
@@ -41,20 +41,20 @@ use Rattle.cred_model.specs.Dumpable.{flags_left, flag_of_value}
 use Rattle.cred_model.specs.Answers.{checked}
 use Rattle.cred_model.specs.Change.{by_change, by_rule}
 use Rattle.cred_model.specs.Ends.{is_task, is_thread_of, ended}
-use Rattle.cred_model.specs.Casts.{not_busy, others_of, with_cast, waits_no_more, joined, dropped}
+use Rattle.cred_model.specs.Casts.{not_busy, others_of, with_broadcast, waits_no_more, joined, dropped}
 use Rattle.cred_model.specs.Moves.{none_or, fewer_or, unless_refused, not_overridden}
 use Rattle.cred_model.specs.Moves.{table_full}
 use Rattle.cred_model.specs.Moves.{first_task, with_overrides, holding, with_override, with_current}
 use Rattle.cred_model.specs.Moves.{given_up, committed, altered, preparing, created, replaced}
-use Rattle.cred_model.specs.Step.{try_commit, done, ends_with, casts_after, commit_answer, aborted, follow, take_hold, for_task, for_access, override_held}
+use Rattle.cred_model.specs.Step.{try_commit, done, ends_with, broadcasts_after, commit_answer, aborted, follow, take_hold, for_task, for_access, override_held}
 use Rattle.cred_model.specs.Step.{override_prepared, by_file}
 use Rattle.cred_model.specs.Like.{IsLike, AreAlike}
 use Rattle.cred_model.proofs.Lists.{All-remove, find_each, get_each}
-use Rattle.cred_model.proofs.Referred.{EachRef, each_updated, each_overriding, each_changed, each_tasks, each_casts, each_flags, each_infos, each_files}
+use Rattle.cred_model.proofs.Referred.{EachRef, each_updated, each_overriding, each_changed, each_tasks, each_broadcasts, each_flags, each_infos, each_files}
 use Rattle.cred_model.proofs.Referred.{each_holds, each_prepared, each_deferred, each_ended}
 use Rattle.cred_model.proofs.LikeReads.{with, Same, slots_of, each_same, same_numbered, same_credential, same_opener, same_held, numbered_by, credential_by}
 use Rattle.cred_model.proofs.LikeReads.{opener_by, held_by_each}
-use Rattle.cred_model.proofs.LikeTests.{BothAre, tested, read, found, either, like_with, like_casts, like_flags, like_sealed, same_next, gave, full_like}
+use Rattle.cred_model.proofs.LikeTests.{BothAre, tested, read, found, either, like_with, like_broadcasts, like_flags, like_sealed, same_next, gave, full_like}
 use Rattle.cred_model.proofs.LikeTests.{in_slots}
 
 -- ---- the events
@@ -103,7 +103,7 @@ module _ (script : Script) (s : State) (cs : List SealedCred) (line : ℕ) (like
   init_like task process user group ns =
       let new = first_task task process in
       let cred = first_credential user group ns (root_of script ns) in
-      tested (not_busy (cast_in s process)) _ _
+      tested (not_busy (broadcast_in s process)) _ _
       (λ idle. tested (none_or (task_of s task) _) _ _
       (λ free. tested (fewer_or (length s.tasks) TASKS _) _ _
       (λ few. in_slots s cs table_full
@@ -206,11 +206,11 @@ module _ (script : Script) (s : State) (cs : List SealedCred) (line : ℕ) (like
       (All-append Here on.deferred _ each.deferred (All-cons Here owner.current (p.base ∷ []) now (All-cons Here p.base [] here (All-nil Here)))))
 
   -- an execve drops the broadcast of the process
-  casts_like : (change : Change) (owner : Task) (a b : Answer × State) → AreAlike a b
-      → AreAlike (a.0, casts_after change owner a.1) (b.0, casts_after change owner b.1)
-  casts_like (Exec file) owner a b alike =
-      record { answers = alike.answers; states = like_casts (dropped owner.process) alike.states }
-  casts_like change owner a b alike = alike
+  broadcasts_like : (change : Change) (owner : Task) (a b : Answer × State) → AreAlike a b
+      → AreAlike (a.0, broadcasts_after change owner a.1) (b.0, broadcasts_after change owner b.1)
+  broadcasts_like (Exec file) owner a b alike =
+      record { answers = alike.answers; states = like_broadcasts (dropped owner.process) alike.states }
+  broadcasts_like change owner a b alike = alike
 
   -- what an execve, or a change of ids, makes of the flag
   flags_like : (a b : Answer × State) (flags others : List ProcessFlag) → flags ≡ others → AreAlike a b
@@ -230,9 +230,9 @@ module _ (script : Script) (s : State) (cs : List SealedCred) (line : ℕ) (like
       let ends = ends_with last.change owner in
       let count = count_by ends s.tasks in
       let stale = Stale p.base owner.current in
-      let after : State → State → State = λ now before. record (casts_after last.change owner now) { dumpable = flags_committed before owner last } in
+      let after : State → State → State = λ now before. record (broadcasts_after last.change owner now) { dumpable = flags_committed before owner last } in
       elim (owner.current == p.base) as (λ b. AreAlike (cond b (commit_answer last (length s.creds) p.slot count, after (committed (ended ends s) place p owner.current last.cred) s) (stale, given_up s place p)) (cond b (commit_answer last (length cs) p.slot count, after (committed (ended ends (with s cs)) place p owner.current last.cred) (with s cs)) (stale, given_up (with s cs) place p))) [
-        | true ↦ flags_like _ _ _ _ (same_flags owner last now) (casts_like last.change owner _ _ (committed_like place p owner last here now))
+        | true ↦ flags_like _ _ _ _ (same_flags owner last now) (broadcasts_like last.change owner _ _ (committed_like place p owner last here now))
         | false ↦ ended_like stale place p here
       ]
 
@@ -326,18 +326,18 @@ module _ (script : Script) (s : State) (cs : List SealedCred) (line : ℕ) (like
   pub begin_like : (task : ℕ) (call : IdCall) → DoneAlike (Begin task call)
   begin_like task call =
       own_like task (NoTask task) _ _
-      (λ owner old here. tested (not_busy (cast_in s owner.process)) _ _
-      (λ idle. tested (none_or (cast_of s line) _) _ _
+      (λ owner old here. tested (not_busy (broadcast_in s owner.process)) _ _
+      (λ idle. tested (none_or (broadcast_of s line) _) _ _
       (λ unused. tested (not_overridden owner) _ _
       (λ own. tested (by_rule (set_id old.cred call)) _ _
       (λ new.
       let others = others_of owner s.tasks in
-      let cast : Broadcast = record { number = line; process = owner.process; caller = task; call = call; waiting = others } in
+      let broadcast : Broadcast = record { number = line; process = owner.process; caller = task; call = call; waiting = others } in
       in_slots s cs table_full
       (λ now slot. (
         Began (length now.creds) slot (length others),
         record (replaced now task old.number new slot) {
-          casts = with_cast now.casts cast;
+          broadcasts = with_broadcast now.broadcasts broadcast;
           dumpable = renewed now.dumpable owner.process
               (differs old.cred new);
         },
@@ -346,64 +346,64 @@ module _ (script : Script) (s : State) (cs : List SealedCred) (line : ℕ) (like
       (λ gone each slot. like_sealed (λ n. Began n slot (length others))
       (λ n. record s {
         tasks = with_current s.tasks task n;
-        casts = with_cast s.casts cast;
+        broadcasts = with_broadcast s.broadcasts broadcast;
         deferred = gone ++ old.number ∷ [];
         dumpable = renewed s.dumpable owner.process (differs old.cred new);
       })
       s.creds cs (record { cred = new; slot = slot }) like.slots
-      (each_flags (each_casts
+      (each_flags (each_broadcasts
       (each_deferred (each_updated each task (length s.creds) next) _ (All-push Here gone old.number each.deferred here))
       _) _)))))))
 
   -- the process ends
-  aborted_like : (cause : AbortCause) (task : ℕ) (cast : Broadcast) (gone : List ℕ) → EachRef Here (gave s gone)
-      → AreAlike (Aborted task cause, aborted cast (gave s gone)) (Aborted task cause, aborted cast (with (gave s gone) cs))
-  aborted_like cause task cast gone each =
-      leaves _ (aborted cast (gave s gone)) refl (each_flags (each_casts (each_ended each (is_thread_of cast.process)) _) _)
+  aborted_like : (cause : AbortCause) (task : ℕ) (broadcast : Broadcast) (gone : List ℕ) → EachRef Here (gave s gone)
+      → AreAlike (Aborted task cause, aborted broadcast (gave s gone)) (Aborted task cause, aborted broadcast (with (gave s gone) cs))
+  aborted_like cause task broadcast gone each =
+      leaves _ (aborted broadcast (gave s gone)) refl (each_flags (each_broadcasts (each_ended each (is_thread_of broadcast.process)) _) _)
 
-  follow_like : (cast : Broadcast) (task : ℕ) (owner : Task) (old : Numbered) (made : Result Credential Answer) → Here old.number
-      → AreAlike (follow s cast task owner old made) (follow (with s cs) cast task owner old made)
-  follow_like cast task owner old (Err refusal) here = aborted_like cause.Perm task cast s.deferred refs
-  follow_like cast task owner old (Ok new) here =
-      let left = length cast.waiting - 1 in
-      in_slots s cs (λ now. (Aborted task cause.Full, aborted cast now))
+  follow_like : (broadcast : Broadcast) (task : ℕ) (owner : Task) (old : Numbered) (made : Result Credential Answer) → Here old.number
+      → AreAlike (follow s broadcast task owner old made) (follow (with s cs) broadcast task owner old made)
+  follow_like broadcast task owner old (Err refusal) here = aborted_like cause.Perm task broadcast s.deferred refs
+  follow_like broadcast task owner old (Ok new) here =
+      let left = length broadcast.waiting - 1 in
+      in_slots s cs (λ now. (Aborted task cause.Full, aborted broadcast now))
       (λ now slot. (
         Acted task (length now.creds) slot left,
         record (replaced now task old.number new slot) {
-          casts = waits_no_more task now.casts;
+          broadcasts = waits_no_more task now.broadcasts;
           dumpable = renewed now.dumpable owner.process
               (differs old.cred new);
         },
       )) like
-      (aborted_like cause.Full task cast)
+      (aborted_like cause.Full task broadcast)
       (λ gone each slot. like_sealed (λ n. Acted task n slot left)
       (λ n. record s {
         tasks = with_current s.tasks task n;
-        casts = waits_no_more task s.casts;
+        broadcasts = waits_no_more task s.broadcasts;
         deferred = gone ++ old.number ∷ [];
         dumpable = renewed s.dumpable owner.process (differs old.cred new);
       })
       s.creds cs (record { cred = new; slot = slot }) like.slots
-      (each_flags (each_casts
+      (each_flags (each_broadcasts
       (each_deferred (each_updated each task (length s.creds) next) _ (All-push Here gone old.number each.deferred here))
       _) _))
 
   pub act_like : (number : ℕ) → DoneAlike (Act number)
   act_like number =
-      tested (ok_or (cast_of s number) (NoBroadcast number)) _ _
-      (λ cast. tested (ok_or (slice_get cast.waiting 0) (NoBroadcast number)) _ _
+      tested (ok_or (broadcast_of s number) (NoBroadcast number)) _ _
+      (λ broadcast. tested (ok_or (slice_get broadcast.waiting 0) (NoBroadcast number)) _ _
       (λ task. own_like task (NoBroadcast number) _ _
-      (λ owner old here. follow_like cast task owner old (by_rule (set_id old.cred cast.call)) here)))
+      (λ owner old here. follow_like broadcast task owner old (by_rule (set_id old.cred broadcast.call)) here)))
 
   -- a task more, which shares this credential
-  child_like : (answer : Answer) (child process number : ℕ) (casts : List Broadcast) (flags : List ProcessFlag) → Here number
-      → let after = record s { tasks = s.tasks ++ first_task child process number ∷ []; casts = casts; dumpable = flags } in
+  child_like : (answer : Answer) (child process number : ℕ) (broadcasts : List Broadcast) (flags : List ProcessFlag) → Here number
+      → let after = record s { tasks = s.tasks ++ first_task child process number ∷ []; broadcasts = broadcasts; dumpable = flags } in
       AreAlike (answer, after) (answer, with after cs)
-  child_like answer child process number casts flags here =
-      leaves answer (record s { tasks = s.tasks ++ first_task child process number ∷ []; casts = casts; dumpable = flags }) refl
-      (each_flags (each_casts
+  child_like answer child process number broadcasts flags here =
+      leaves answer (record s { tasks = s.tasks ++ first_task child process number ∷ []; broadcasts = broadcasts; dumpable = flags }) refl
+      (each_flags (each_broadcasts
       (each_tasks refs _ (All-push OfTask s.tasks _ refs.currents here)
-      (All-push OfOverrides s.tasks _ refs.overrides (All-nil Here))) casts) flags)
+      (All-push OfOverrides s.tasks _ refs.overrides (All-nil Here))) broadcasts) flags)
 
   pub spawn_like : (task child : ℕ) → DoneAlike (Spawn task child)
   spawn_like task child =
@@ -412,7 +412,7 @@ module _ (script : Script) (s : State) (cs : List SealedCred) (line : ℕ) (like
       (λ idle. tested (none_or (task_of s child) _) _ _
       (λ new. tested (not_overridden owner) _ _
       (λ own. tested (fewer_or (length s.tasks) TASKS _) _ _
-      (λ few. child_like _ child owner.process parent.number (joined task child s.casts) s.dumpable here)))))
+      (λ few. child_like _ child owner.process parent.number (joined task child s.broadcasts) s.dumpable here)))))
 
   pub fork_like : (task child process : ℕ) → DoneAlike (Fork task child process)
   fork_like task child process =
@@ -422,15 +422,15 @@ module _ (script : Script) (s : State) (cs : List SealedCred) (line : ℕ) (like
       (λ new. tested (none_or (find (is_thread_of process) s.tasks) _) _ _
       (λ unused. tested (not_overridden owner) _ _
       (λ own. tested (fewer_or (length s.tasks) TASKS _) _ _
-      (λ few. child_like _ child process parent.number s.casts (with_process_flag s.dumpable process (is_dumpable s.dumpable owner.process)) here))))))
+      (λ few. child_like _ child process parent.number s.broadcasts (with_process_flag s.dumpable process (is_dumpable s.dumpable owner.process)) here))))))
 
   pub exit_like : (task : ℕ) → DoneAlike (Exit task)
   exit_like task =
       tested (ok_or (task_of s task) _) _ _
       (λ owner. tested (not_busy (begun_by s task)) _ _
       (λ idle. tested (not_overridden owner) _ _
-      (λ own. leaves Done (record (ended (is_task task) s) { casts = waits_no_more task s.casts; dumpable = flags_left s owner }) refl
-      (each_flags (each_casts (each_ended refs (is_task task)) _) _))))
+      (λ own. leaves Done (record (ended (is_task task) s) { broadcasts = waits_no_more task s.broadcasts; dumpable = flags_left s owner }) refl
+      (each_flags (each_broadcasts (each_ended refs (is_task task)) _) _))))
 
   -- ---- who may look into whom
 
@@ -485,7 +485,7 @@ module _ (script : Script) (s : State) (cs : List SealedCred) (line : ℕ) (like
   pub raw_like : (task : ℕ) (call : IdCall) → DoneAlike (Raw task call)
   raw_like task call =
       own_like task (NoTask task) _ _
-      (λ owner old here. tested (not_busy (cast_in s owner.process)) _ _
+      (λ owner old here. tested (not_busy (broadcast_in s owner.process)) _ _
       (λ idle. tested (not_overridden owner) _ _
       (λ own. tested (by_rule (set_id old.cred call)) _ _
       (λ new.

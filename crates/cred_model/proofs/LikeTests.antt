@@ -68,7 +68,7 @@ pub like_with : (t : State) (cs : List SealedCred) → slots_of t.creds ≡ slot
     → IsLike t (with t cs)
 like_with t cs slots each = record {
   tasks = refl;
-  casts = refl;
+  broadcasts = refl;
   files = refl;
   holds = refl;
   prepared = refl;
@@ -80,11 +80,11 @@ like_with t cs slots each = record {
 }
 
 -- the same is done to the broadcasts of both
-pub like_casts : {a b : State} (f : List Broadcast → List Broadcast) → IsLike a b
-    → IsLike (record a { casts = f a.casts }) (record b { casts = f b.casts })
-like_casts f like = record {
+pub like_broadcasts : {a b : State} (f : List Broadcast → List Broadcast) → IsLike a b
+    → IsLike (record a { broadcasts = f a.broadcasts }) (record b { broadcasts = f b.broadcasts })
+like_broadcasts f like = record {
   tasks = like.tasks;
-  casts = ap f like.casts;
+  broadcasts = ap f like.broadcasts;
   files = like.files;
   holds = like.holds;
   prepared = like.prepared;
@@ -100,7 +100,7 @@ pub like_flags : {a b : State} (flags : List ProcessFlag) → IsLike a b
     → IsLike (record a { dumpable = flags }) (record b { dumpable = flags })
 like_flags flags like = record {
   tasks = like.tasks;
-  casts = like.casts;
+  broadcasts = like.broadcasts;
   files = like.files;
   holds = like.holds;
   prepared = like.prepared;
@@ -128,7 +128,7 @@ like_sealed answer t bs cs x same each =
       answers = refl;
       states = record {
         tasks = refl;
-        casts = refl;
+        broadcasts = refl;
         files = refl;
         holds = refl;
         prepared = refl;

@@ -17,7 +17,7 @@ pub like_self : (s : State) → IsLike s s
 like_self s =
     record {
       tasks = refl;
-      casts = refl;
+      broadcasts = refl;
       files = refl;
       holds = refl;
       prepared = refl;
@@ -41,7 +41,7 @@ refs_same a b like =
 pub like_sym : (a b : State) → IsLike a b → IsLike b a
 like_sym a b like = record {
   tasks = sym like.tasks;
-  casts = sym like.casts;
+  broadcasts = sym like.broadcasts;
   files = sym like.files;
   holds = sym like.holds;
   prepared = sym like.prepared;
@@ -58,7 +58,7 @@ like_trans a b c first second =
     = subst (All (λ n. slice_get b.creds n ≡ slice_get c.creds n)) (sym (refs_same a b first)) second.creds in
     record {
       tasks = first.tasks ∙ second.tasks;
-      casts = first.casts ∙ second.casts;
+      broadcasts = first.broadcasts ∙ second.broadcasts;
       files = first.files ∙ second.files;
       holds = first.holds ∙ second.holds;
       prepared = first.prepared ∙ second.prepared;
@@ -76,8 +76,8 @@ pub like_step : (script : Script) (a b : State) (line : ℕ) (event : Event) →
 like_step script a b line event like =
     let other : record a { creds = b.creds } ≡ b
     = ap (λ ts. record a { tasks = ts; creds = b.creds }) like.tasks
-    ∙ ap (λ xs. record a { tasks = b.tasks; casts = xs; creds = b.creds }) like.casts
-    ∙ ap (λ fs. record a { tasks = b.tasks; casts = b.casts; files = fs; creds = b.creds }) like.files
+    ∙ ap (λ xs. record a { tasks = b.tasks; broadcasts = xs; creds = b.creds }) like.broadcasts
+    ∙ ap (λ fs. record a { tasks = b.tasks; broadcasts = b.broadcasts; files = fs; creds = b.creds }) like.files
     ∙ ap (λ hs. record b { holds = hs; prepared = a.prepared; deferred = a.deferred; dumpable = a.dumpable; infos = a.infos }) like.holds
     ∙ ap (λ ps. record b { prepared = ps; deferred = a.deferred; dumpable = a.dumpable; infos = a.infos }) like.prepared
     ∙ ap (λ ds. record b { deferred = ds; dumpable = a.dumpable; infos = a.infos }) like.deferred
@@ -86,7 +86,7 @@ like_step script a b line event like =
     let with_creds : IsLike a (record a { creds = b.creds })
     = record {
       tasks = refl;
-      casts = refl;
+      broadcasts = refl;
       files = refl;
       holds = refl;
       prepared = refl;

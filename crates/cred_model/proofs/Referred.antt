@@ -109,8 +109,8 @@ each_files each fs openers =
     }
 
 -- broadcasts refer to nothing
-pub each_casts : {P : ℕ → Type 0} {s : State} → EachRef P s → (casts : List Broadcast) → EachRef P (record s { casts = casts })
-each_casts each casts =
+pub each_broadcasts : {P : ℕ → Type 0} {s : State} → EachRef P s → (broadcasts : List Broadcast) → EachRef P (record s { broadcasts = broadcasts })
+each_broadcasts each broadcasts =
     record {
       currents = each.currents;
       overrides = each.overrides;

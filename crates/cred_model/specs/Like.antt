@@ -11,7 +11,7 @@ use Rattle.cred_model.specs.Step.{outcome}
 -- any more, nothing is said: their credentials may be gone.
 pub record IsLike (a b : State) : Type 0 where
   pub tasks : a.tasks ≡ b.tasks
-  pub casts : a.casts ≡ b.casts
+  pub broadcasts : a.broadcasts ≡ b.broadcasts
   pub files : a.files ≡ b.files
   pub holds : a.holds ≡ b.holds
   pub prepared : a.prepared ≡ b.prepared

@@ -74,7 +74,7 @@ pub record SealedCred : Type 0 where
 -- a credential in that list is its number.
 pub record State : Type 0 where
   pub tasks : List Task
-  pub casts : List Broadcast
+  pub broadcasts : List Broadcast
   pub files : List OpenFile
   pub holds : List Hold
   pub prepared : List Prepared
@@ -87,7 +87,7 @@ pub record State : Type 0 where
 abbrev pub opening : Script → State
 opening script = record {
   tasks = [];
-  casts = [];
+  broadcasts = [];
   files = [];
   holds = [];
   prepared = [];
@@ -106,16 +106,16 @@ abbrev pub task_of : State → ℕ → Option Task
 task_of s number = find (λ t. t.number == number) s.tasks
 
 -- the broadcast of this number
-abbrev pub cast_of : State → ℕ → Option Broadcast
-cast_of s number = find (λ b. b.number == number) s.casts
+abbrev pub broadcast_of : State → ℕ → Option Broadcast
+broadcast_of s number = find (λ b. b.number == number) s.broadcasts
 
 -- the broadcast that is open in a process
-abbrev pub cast_in : State → ℕ → Option Broadcast
-cast_in s process = find (λ b. b.process == process) s.casts
+abbrev pub broadcast_in : State → ℕ → Option Broadcast
+broadcast_in s process = find (λ b. b.process == process) s.broadcasts
 
 -- the broadcast that a task has begun, while it is open
 abbrev pub begun_by : State → ℕ → Option Broadcast
-begun_by s task = find (λ b. b.caller == task) s.casts
+begun_by s task = find (λ b. b.caller == task) s.broadcasts
 
 abbrev pub open_of : State → ℕ → Option OpenFile
 open_of s fd = find (λ f. f.fd == fd) s.files

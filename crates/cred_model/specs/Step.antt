@@ -42,11 +42,13 @@ use Rattle.cred_event.specs.declared.answer.Told.TheVariants as told
 use Rattle.cred_model.specs.Script.{Script, chain_of, root_of, reaches}
 use Rattle.cred_model.specs.Named.{query_files, change_files}
 use Rattle.cred_model.specs.State.{State, Task, Prepared, Changed, Broadcast, Numbered, task_of}
-use Rattle.cred_model.specs.State.{cast_of, cast_in, begun_by, open_of, hold_of, prepared_of}
+use Rattle.cred_model.specs.State.{broadcast_of, broadcast_in, begun_by, open_of, hold_of}
+use Rattle.cred_model.specs.State.{prepared_of}
 use Rattle.cred_model.specs.State.{numbered, credential_of, opener_of, held_by, info_of}
 use Rattle.cred_model.specs.Slots.{swept}
 use Rattle.cred_model.specs.Ends.{is_task, is_thread_of, is_beside, ended}
-use Rattle.cred_model.specs.Casts.{not_busy, others_of, with_cast, waits_no_more, joined, dropped}
+use Rattle.cred_model.specs.Casts.{not_busy, others_of, with_broadcast, waits_no_more, joined}
+use Rattle.cred_model.specs.Casts.{dropped}
 use Rattle.cred_model.specs.Ptrace.{may_trace}
 use Rattle.cred_model.specs.Dumpable.{is_dumpable, with_process_flag, set_flag, without_flag}
 use Rattle.cred_model.specs.Dumpable.{differs}
@@ -67,9 +69,9 @@ ends_with (Exec file) task t = is_beside task t
 ends_with change task t = false
 
 -- the state in which the broadcast of the task's process is dropped, if the change is an execve
-abbrev pub casts_after : Change → Task → State → State
-casts_after (Exec file) task s = record s { casts = dropped task.process s.casts }
-casts_after change task s = s
+abbrev pub broadcasts_after : Change → Task → State → State
+broadcasts_after (Exec file) task s = record s { broadcasts = dropped task.process s.broadcasts }
+broadcasts_after change task s = s
 
 -- what is answered where a change is committed, by what it was
 abbrev pub committed_by : Change → Gains → (number slot count : ℕ) → Answer
@@ -89,14 +91,14 @@ try_commit s place p owner last =
     if owner.current == p.base
     then (
       commit_answer last (length s.creds) p.slot (count_by ends s.tasks),
-      record (casts_after last.change owner now) { dumpable = flags_committed s owner last },
+      record (broadcasts_after last.change owner now) { dumpable = flags_committed s owner last },
     )
     else (Stale p.base owner.current, given_up s place p)
 
 -- init: a first task is created, in a namespace where root has this user id
 abbrev pub by_init : State → (task process user group ns root : ℕ) → Result (Answer × State) Answer
 by_init s task process user group ns root = do
-  idle ← not_busy (cast_in s process)
+  idle ← not_busy (broadcast_in s process)
   new ← none_or (task_of s task) (Exists named.Task task)
   few ← fewer_or (length s.tasks) TASKS (TooMany counted.Tasks)
   Ok (in_slot s table_full (λ s slot.
@@ -255,12 +257,12 @@ abbrev pub by_begin : State → ℕ → ℕ → IdCall → Result (Answer × Sta
 by_begin s line task call = do
   owner ← ok_or (task_of s task) (NoTask task)
   old ← ok_or (numbered s.creds owner.current) (NoTask task)
-  idle ← not_busy (cast_in s owner.process)
-  new ← none_or (cast_of s line) (Exists named.Broadcast line)
+  idle ← not_busy (broadcast_in s owner.process)
+  new ← none_or (broadcast_of s line) (Exists named.Broadcast line)
   own ← not_overridden owner
   made ← by_rule (set_id old.cred call)
   let others = others_of owner s.tasks in
-      let cast : Broadcast = record {
+      let broadcast : Broadcast = record {
         number = line;
         process = owner.process;
         caller = task;
@@ -270,29 +272,29 @@ by_begin s line task call = do
       Ok (in_slot s table_full (λ s slot. (
         Began (length s.creds) slot (length others),
         record (replaced s task old.number made slot) {
-          casts = with_cast s.casts cast;
+          broadcasts = with_broadcast s.broadcasts broadcast;
           dumpable = renewed s.dumpable owner.process (differs old.cred made);
         },
       )))
 
 -- A thread of the process can't follow: all its threads end, and the broadcast is dropped.
 abbrev pub aborted : Broadcast → State → State
-aborted cast s =
-    record (ended (is_thread_of cast.process) s) {
-      casts = dropped cast.process s.casts;
-      dumpable = without_flag s.dumpable cast.process;
+aborted broadcast s =
+    record (ended (is_thread_of broadcast.process) s) {
+      broadcasts = dropped broadcast.process s.broadcasts;
+      dumpable = without_flag s.dumpable broadcast.process;
     }
 
 -- The waiting thread makes the same call on its own current credential. A refusal, or no
 -- free slot, ends the process.
 abbrev pub follow : State → Broadcast → ℕ → Task → Numbered → Result Credential Answer
     → Answer × State
-follow s cast task owner old (Err refusal) = (Aborted task cause.Perm, aborted cast s)
-follow s cast task owner old (Ok made) =
-    in_slot s (λ s. (Aborted task cause.Full, aborted cast s)) (λ s slot. (
-      Acted task (length s.creds) slot (length cast.waiting - 1),
+follow s broadcast task owner old (Err refusal) = (Aborted task cause.Perm, aborted broadcast s)
+follow s broadcast task owner old (Ok made) =
+    in_slot s (λ s. (Aborted task cause.Full, aborted broadcast s)) (λ s slot. (
+      Acted task (length s.creds) slot (length broadcast.waiting - 1),
       record (replaced s task old.number made slot) {
-        casts = waits_no_more task s.casts;
+        broadcasts = waits_no_more task s.broadcasts;
         dumpable = renewed s.dumpable owner.process (differs old.cred made);
       },
     ))
@@ -300,11 +302,11 @@ follow s cast task owner old (Ok made) =
 -- the least of the threads that wait in a broadcast makes its step
 abbrev pub by_act : State → ℕ → Result (Answer × State) Answer
 by_act s number = do
-  cast ← ok_or (cast_of s number) (NoBroadcast number)
-  task ← ok_or (slice_get cast.waiting 0) (NoBroadcast number)
+  broadcast ← ok_or (broadcast_of s number) (NoBroadcast number)
+  task ← ok_or (slice_get broadcast.waiting 0) (NoBroadcast number)
   owner ← ok_or (task_of s task) (NoBroadcast number)
   old ← ok_or (numbered s.creds owner.current) (NoBroadcast number)
-  Ok (follow s cast task owner old (by_rule (set_id old.cred cast.call)))
+  Ok (follow s broadcast task owner old (by_rule (set_id old.cred broadcast.call)))
 
 -- A file is opened under a descriptor: the credential that a label holds decides, and stays with it
 -- (open(2)).
@@ -340,7 +342,7 @@ by_spawn s task child = do
     Sealed parent.number parent.slot,
     record s {
       tasks = s.tasks ++ first_task child owner.process parent.number ∷ [];
-      casts = joined task child s.casts;
+      broadcasts = joined task child s.broadcasts;
     },
   )
 
@@ -372,7 +374,7 @@ by_exit s task = do
   Ok (
     Done,
     record (ended (is_task task) s) {
-      casts = waits_no_more task s.casts;
+      broadcasts = waits_no_more task s.broadcasts;
       dumpable = flags_left s owner;
     },
   )
@@ -428,7 +430,7 @@ abbrev pub by_raw : State → ℕ → IdCall → Result (Answer × State) Answer
 by_raw s task call = do
   owner ← ok_or (task_of s task) (NoTask task)
   old ← ok_or (numbered s.creds owner.current) (NoTask task)
-  idle ← not_busy (cast_in s owner.process)
+  idle ← not_busy (broadcast_in s owner.process)
   own ← not_overridden owner
   made ← by_rule (set_id old.cred call)
   Ok (in_slot s table_full (λ s slot. (

@@ -16,15 +16,15 @@ IsOpen b = is_open b ≡ true
 
 -- ---- those that are open
 
-all_open : (casts : List Broadcast) → All IsOpen casts → filter is_open casts ≡ casts
+all_open : (broadcasts : List Broadcast) → All IsOpen broadcasts → filter is_open broadcasts ≡ broadcasts
 all_open [] are = refl
 all_open (c ∷ cs) are =
     ap (λ b. cond b (c ∷ filter is_open cs) (filter is_open cs)) (All-head IsOpen c cs are)
     ∙ ap (λ bs. c ∷ bs) (all_open cs (All-tail IsOpen c cs are))
 
 -- one among them that was changed
-still_open : (casts : List Broadcast) (place : ℕ) (now : Broadcast) → All IsOpen casts → IsOpen now → place < length casts
-    → filter is_open (set casts place now) ≡ set casts place now
+still_open : (broadcasts : List Broadcast) (place : ℕ) (now : Broadcast) → All IsOpen broadcasts → IsOpen now → place < length broadcasts
+    → filter is_open (set broadcasts place now) ≡ set broadcasts place now
 still_open [] place now are some within = absurd (omega arith)
 still_open (c ∷ cs) zero now are some within =
     ap (λ b. cond b (now ∷ filter is_open cs) (filter is_open cs)) some
@@ -33,8 +33,8 @@ still_open (c ∷ cs) (suc i) now are some within =
     ap (λ b. cond b (c ∷ filter is_open (set cs i now)) (filter is_open (set cs i now))) (All-head IsOpen c cs are)
     ∙ ap (λ bs. c ∷ bs) (still_open cs i now (All-tail IsOpen c cs are) some (omega arith))
 
-closed_there : (casts : List Broadcast) (place : ℕ) (now : Broadcast) → All IsOpen casts → is_open now ≡ false → place < length casts
-    → filter is_open (set casts place now) ≡ remove (set casts place now) place
+closed_there : (broadcasts : List Broadcast) (place : ℕ) (now : Broadcast) → All IsOpen broadcasts → is_open now ≡ false → place < length broadcasts
+    → filter is_open (set broadcasts place now) ≡ remove (set broadcasts place now) place
 closed_there [] place now are none within = absurd (omega arith)
 closed_there (c ∷ cs) zero now are none within =
     ap (λ b. cond b (now ∷ filter is_open cs) (filter is_open cs)) none
@@ -92,7 +92,7 @@ module _ (task : ℕ) where
   same_without : (c : Broadcast) → waits_in task c ≡ false → without_waiter task c ≡ c
   same_without c none = ap (λ (ws : List ℕ). record c { waiting = ws }) (none_there c.waiting none)
 
-  none_left : (casts : List Broadcast) → WaitsNowhere casts task → map (without_waiter task) casts ≡ casts
+  none_left : (broadcasts : List Broadcast) → WaitsNowhere broadcasts task → map (without_waiter task) broadcasts ≡ broadcasts
   none_left [] nowhere = refl
   none_left (c ∷ cs) nowhere =
       ap (λ b. b ∷ map (without_waiter task) cs) (same_without c (All-head (λ b. waits_in task b ≡ false) c cs nowhere))
@@ -106,9 +106,9 @@ module _ (task : ℕ) where
       ] refl
 
   -- at the place of the broadcast that it waits in
-  left_at : (casts : List Broadcast) (place : ℕ) (d : Broadcast) → AllPairs SharesNone casts → place < length casts
-      → waits_in task (get_or casts place d) ≡ true
-      → set casts place (without_waiter task (get_or casts place d)) ≡ map (without_waiter task) casts
+  left_at : (broadcasts : List Broadcast) (place : ℕ) (d : Broadcast) → AllPairs SharesNone broadcasts → place < length broadcasts
+      → waits_in task (get_or broadcasts place d) ≡ true
+      → set broadcasts place (without_waiter task (get_or broadcasts place d)) ≡ map (without_waiter task) broadcasts
   left_at [] place d apart within waits = absurd (omega arith)
   left_at (c ∷ cs) zero d apart within waits =
       let others = AllPairs-head SharesNone c cs apart in
@@ -130,33 +130,33 @@ some_first [] task first = cc
 some_first (n ∷ ns) task first = omega arith
 
 -- the broadcast at this place, in which the task is the least that waits
-module _ (casts : List Broadcast) (task place : ℕ) (cast : Broadcast) (are : AreWaitedFor casts)
-    (least : IsSomeAnd (slice_get casts place) (λ b. slice_get b.waiting 0 ≡ Some task)) (read : cast ≡ get_or casts place cast) where
-  within : place < length casts
-  within = some_within (λ (b : Broadcast). slice_get b.waiting 0 ≡ Some task) casts place least
+module _ (broadcasts : List Broadcast) (task place : ℕ) (broadcast : Broadcast) (are : AreWaitedFor broadcasts)
+    (least : IsSomeAnd (slice_get broadcasts place) (λ b. slice_get b.waiting 0 ≡ Some task)) (read : broadcast ≡ get_or broadcasts place broadcast) where
+  within : place < length broadcasts
+  within = some_within (λ (b : Broadcast). slice_get b.waiting 0 ≡ Some task) broadcasts place least
 
-  first : slice_get cast.waiting 0 ≡ Some task
+  first : slice_get broadcast.waiting 0 ≡ Some task
   first =
       subst (λ o. IsSomeAnd o (λ (b : Broadcast). slice_get b.waiting 0 ≡ Some task))
-      (slice_get-get_or casts place cast within ∙ ap (λ (c : Broadcast). Some c) (sym read)) least
+      (slice_get-get_or broadcasts place broadcast within ∙ ap (λ (c : Broadcast). Some c) (sym read)) least
 
-  up : AllPairs Below cast.waiting
-  up = subst (λ (c : Broadcast). AllPairs Below c.waiting) (sym read) (are.rising place cast within)
+  up : AllPairs Below broadcast.waiting
+  up = subst (λ (c : Broadcast). AllPairs Below c.waiting) (sym read) (are.rising place broadcast within)
 
-  pub somebody : 0 < length cast.waiting
-  somebody = some_first cast.waiting task first
+  pub somebody : 0 < length broadcast.waiting
+  somebody = some_first broadcast.waiting task first
 
-  module _ (now : Broadcast) (steps : now ≡ record cast { waiting = drop 1 cast.waiting }) where
-    gone_there : set casts place now ≡ map (without_waiter task) casts
+  module _ (now : Broadcast) (steps : now ≡ record broadcast { waiting = drop 1 broadcast.waiting }) where
+    gone_there : set broadcasts place now ≡ map (without_waiter task) broadcasts
     gone_there =
-        ap (set casts place)
-        (steps ∙ ap (λ (ws : List ℕ). record cast { waiting = ws }) (first_leaves task cast.waiting up first) ∙ ap (without_waiter task) read)
-        ∙ left_at task casts place cast are.apart within (sym (ap (waits_in task) read) ∙ first_waits task cast.waiting first)
+        ap (set broadcasts place)
+        (steps ∙ ap (λ (ws : List ℕ). record broadcast { waiting = ws }) (first_leaves task broadcast.waiting up first) ∙ ap (without_waiter task) read)
+        ∙ left_at task broadcasts place broadcast are.apart within (sym (ap (waits_in task) read) ∙ first_waits task broadcast.waiting first)
 
     -- where others still wait there
-    pub left_open : is_open now ≡ true → set casts place now ≡ waits_no_more task casts
-    left_open some = sym (still_open casts place now are.some some within) ∙ ap (filter is_open) gone_there
+    pub left_open : is_open now ≡ true → set broadcasts place now ≡ waits_no_more task broadcasts
+    left_open some = sym (still_open broadcasts place now are.some some within) ∙ ap (filter is_open) gone_there
 
     -- where nobody does
-    pub left_closed : is_open now ≡ false → remove (set casts place now) place ≡ waits_no_more task casts
-    left_closed none = sym (closed_there casts place now are.some none within) ∙ ap (filter is_open) gone_there
+    pub left_closed : is_open now ≡ false → remove (set broadcasts place now) place ≡ waits_no_more task broadcasts
+    left_closed none = sym (closed_there broadcasts place now are.some none within) ∙ ap (filter is_open) gone_there

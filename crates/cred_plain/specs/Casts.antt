@@ -6,11 +6,11 @@ use Rattle.cred_model.specs.State.{Broadcast}
 use Rattle.cred_model.specs.Casts.{is_open, SharesNone}
 
 -- No task waits in two. In each somebody waits: those tasks in rising order, none of them twice.
-pub record AreWaitedFor (casts : List Broadcast) : Type 0 where
-  pub apart : AllPairs SharesNone casts
-  pub rising : All (λ b. AllPairs (λ m n. m < n) b.waiting) casts
-  pub some : All (λ b. is_open b ≡ true) casts
+pub record AreWaitedFor (broadcasts : List Broadcast) : Type 0 where
+  pub apart : AllPairs SharesNone broadcasts
+  pub rising : All (λ b. AllPairs (λ m n. m < n) b.waiting) broadcasts
+  pub some : All (λ b. is_open b ≡ true) broadcasts
 
 -- a broadcast in which one more waits
 abbrev pub joins : ℕ → Broadcast → Broadcast
-joins child cast = record cast { waiting = in_order (cast.waiting ++ child ∷ []) }
+joins child broadcast = record broadcast { waiting = in_order (broadcast.waiting ++ child ∷ []) }

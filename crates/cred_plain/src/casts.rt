@@ -5,7 +5,8 @@ ghost use Rattle.std.specs.List.{AllPairs};
 ghost use Rattle.std.specs.Option.{IsSomeAnd, option_map};
 ghost use Rattle.cred_event.specs.declared.answer.Answer.TheVariants.{Busy};
 ghost use Rattle.cred_ids.specs.Ordered.{in_order};
-ghost use Rattle.cred_model.specs.Casts.{is_open, not_busy, waits_in, waits_no_more, with_cast};
+ghost use Rattle.cred_model.specs.Casts.{is_open, not_busy, waits_in, waits_no_more};
+ghost use Rattle.cred_model.specs.Casts.{with_broadcast};
 ghost use Rattle.cred_model.specs.Casts.{dropped, joined, without_waiter, SharesNone};
 ghost use Rattle.cred_plain.specs.Casts.{AreWaitedFor};
 
@@ -100,48 +101,55 @@ impl Cast {
 }
 
 /// The broadcast of a number.
-pub fn cast_of(casts: &[Cast], number: u32) -> Option<&Cast>
-    ensures { option_map (λ b. b.now) result ≡ find (λ b. b.number == number) casts.now }
+pub fn broadcast_of(broadcasts: &[Cast], number: u32) -> Option<&Cast>
+    ensures { option_map (λ b. b.now) result ≡ find (λ b. b.number == number) broadcasts.now }
 {
-    casts.iter().find(|cast| cast.number == number)
+    broadcasts
+        .iter()
+        .find(|broadcast| broadcast.number == number)
 }
 
 /// Where the broadcast of a number stands.
-pub fn cast_place(casts: &[Cast], number: u32) -> Option<usize>
-    ensures { result ≡ position (λ b. b.number == number) casts.now }
+pub fn broadcast_place(broadcasts: &[Cast], number: u32) -> Option<usize>
+    ensures { result ≡ position (λ b. b.number == number) broadcasts.now }
 {
-    casts.iter().position(|cast| cast.number == number)
+    broadcasts
+        .iter()
+        .position(|broadcast| broadcast.number == number)
 }
 
 /// The number of the broadcast that is open in a process.
-pub fn open_in(casts: &[Cast], process: u32) -> Option<u32>
+pub fn open_in(broadcasts: &[Cast], process: u32) -> Option<u32>
     ensures { MatchOption result
-        (not_busy (find (λ b. b.process == process) casts.now) ≡ Ok tt)
-        (λ number. not_busy (find (λ b. b.process == process) casts.now) ≡ Err (Busy number)) }
+        (not_busy (find (λ b. b.process == process) broadcasts.now) ≡ Ok tt)
+        (λ number. not_busy (find (λ b. b.process == process) broadcasts.now) ≡ Err (Busy number)) }
 {
-    number_in(casts, process)
+    number_in(broadcasts, process)
 }
 
-fn number_in(casts: &[Cast], process: u32) -> Option<u32>
-    ensures { result ≡ option_map (λ b. b.number) (find (λ b. b.process == process) casts.now) }
+fn number_in(broadcasts: &[Cast], process: u32) -> Option<u32>
+    ensures { result
+        ≡ option_map (λ b. b.number) (find (λ b. b.process == process) broadcasts.now) }
 {
-    let found = casts.iter().find(|cast| cast.process == process);
+    let found = broadcasts
+        .iter()
+        .find(|broadcast| broadcast.process == process);
     Some(found?.number)
 }
 
 /// The number of the open broadcast that a task has begun.
-pub fn begun_by(casts: &[Cast], task: u32) -> Option<u32>
+pub fn begun_by(broadcasts: &[Cast], task: u32) -> Option<u32>
     ensures { MatchOption result
-        (not_busy (find (λ b. b.caller == task) casts.now) ≡ Ok tt)
-        (λ number. not_busy (find (λ b. b.caller == task) casts.now) ≡ Err (Busy number)) }
+        (not_busy (find (λ b. b.caller == task) broadcasts.now) ≡ Ok tt)
+        (λ number. not_busy (find (λ b. b.caller == task) broadcasts.now) ≡ Err (Busy number)) }
 {
-    number_by(casts, task)
+    number_by(broadcasts, task)
 }
 
-fn number_by(casts: &[Cast], task: u32) -> Option<u32>
-    ensures { result ≡ option_map (λ b. b.number) (find (λ b. b.caller == task) casts.now) }
+fn number_by(broadcasts: &[Cast], task: u32) -> Option<u32>
+    ensures { result ≡ option_map (λ b. b.number) (find (λ b. b.caller == task) broadcasts.now) }
 {
-    let found = casts.iter().find(|cast| cast.caller == task);
+    let found = broadcasts.iter().find(|broadcast| broadcast.caller == task);
     Some(found?.number)
 }
 
@@ -150,12 +158,13 @@ fn number_by(casts: &[Cast], task: u32) -> Option<u32>
 /// # Errors
 ///
 /// `NoMemory` if an allocation fails: the broadcasts are as they were.
-pub fn open_cast(casts: &mut Vec<Cast>, cast: Cast) -> Result<(), NoMemory>
-    ensures ok { OnOk result (casts.new.items ≡ with_cast casts.old.items cast) }
-    ensures err { OnErr result (casts.new.items ≡ casts.old.items) }
+pub fn open_broadcast(broadcasts: &mut Vec<Cast>, broadcast: Cast) -> Result<(), NoMemory>
+    ensures ok { OnOk result (broadcasts.new.items
+        ≡ with_broadcast broadcasts.old.items broadcast) }
+    ensures err { OnErr result (broadcasts.new.items ≡ broadcasts.old.items) }
 {
-    if !cast.waiting.is_empty() {
-        casts.push(cast)?;
+    if !broadcast.waiting.is_empty() {
+        broadcasts.push(broadcast)?;
     }
     Ok(())
 }
@@ -166,45 +175,48 @@ pub fn open_cast(casts: &mut Vec<Cast>, cast: Cast) -> Result<(), NoMemory>
 /// # Errors
 ///
 /// `NoMemory` if an allocation fails: the broadcasts are as they were.
-pub fn join(casts: &mut Vec<Cast>, parent: u32, child: u32) -> Result<(), NoMemory>
-    requires { AllPairs SharesNone casts.old.items }
-    ensures ok { OnOk result (casts.new.items ≡ joined parent child casts.old.items) }
-    ensures err { OnErr result (casts.new.items ≡ casts.old.items) }
+pub fn join(broadcasts: &mut Vec<Cast>, parent: u32, child: u32) -> Result<(), NoMemory>
+    requires { AllPairs SharesNone broadcasts.old.items }
+    ensures ok { OnOk result (broadcasts.new.items ≡ joined parent child broadcasts.old.items) }
+    ensures err { OnErr result (broadcasts.new.items ≡ broadcasts.old.items) }
 {
-    let Some(place) = casts.iter().position(|cast| cast.waits(parent)) else {
+    let Some(place) = broadcasts
+        .iter()
+        .position(|broadcast| broadcast.waits(parent))
+    else {
         return Ok(());
     };
-    casts[place].join(child)
+    broadcasts[place].join(child)
 }
 
 /// The least task that waits in the broadcast at a place has made its step there: it waits no more,
 /// and a broadcast that nobody waits in any more is closed.
-pub fn act(casts: &mut Vec<Cast>, place: usize, task: u32)
-    requires casts { AreWaitedFor casts.old.items }
-    requires least { IsSomeAnd (slice_get casts.old.items place)
+pub fn act(broadcasts: &mut Vec<Cast>, place: usize, task: u32)
+    requires broadcasts { AreWaitedFor broadcasts.old.items }
+    requires least { IsSomeAnd (slice_get broadcasts.old.items place)
         (λ b. slice_get b.waiting 0 ≡ Some task) }
-    ensures { casts.new.items ≡ waits_no_more task casts.old.items }
+    ensures { broadcasts.new.items ≡ waits_no_more task broadcasts.old.items }
 {
-    let cast = &mut casts[place];
-    cast.step();
-    if !cast.is_open() {
-        casts.remove(place);
+    let broadcast = &mut broadcasts[place];
+    broadcast.step();
+    if !broadcast.is_open() {
+        broadcasts.remove(place);
     }
 }
 
 /// A task waits no more, and the broadcasts that nobody waits in any more are closed.
-pub fn leave(casts: &mut Vec<Cast>, task: u32)
-    ensures { casts.new.items ≡ waits_no_more task casts.old.items }
+pub fn leave(broadcasts: &mut Vec<Cast>, task: u32)
+    ensures { broadcasts.new.items ≡ waits_no_more task broadcasts.old.items }
 {
-    for cast in casts.iter_mut() {
-        cast.leave(task);
+    for broadcast in broadcasts.iter_mut() {
+        broadcast.leave(task);
     }
-    casts.retain(|cast| !cast.waiting.is_empty());
+    broadcasts.retain(|broadcast| !broadcast.waiting.is_empty());
 }
 
 /// The broadcast of a process is dropped.
-pub fn drop_cast(casts: &mut Vec<Cast>, process: u32)
-    ensures { casts.new.items ≡ dropped process casts.old.items }
+pub fn drop_broadcast(broadcasts: &mut Vec<Cast>, process: u32)
+    ensures { broadcasts.new.items ≡ dropped process broadcasts.old.items }
 {
-    casts.retain(|cast| cast.process != process);
+    broadcasts.retain(|broadcast| broadcast.process != process);
 }

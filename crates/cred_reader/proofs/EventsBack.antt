@@ -183,10 +183,10 @@ begin_back script task call fits =
       read = rw (number_back task fits.0, back.read) refl;
     }
 
-act_back : (script : Script) (cast : ℕ) → FitsEvent (event.Act cast)
-    → EventBack script (event.Act cast)
+act_back : (script : Script) (broadcast : ℕ) → FitsEvent (event.Act broadcast)
+    → EventBack script (event.Act broadcast)
 unfolding spec.read_event spec.event_names spec.event_named
-act_back script cast fits = with_word (codes "act") (decimal cast) refl (decimal_plain cast (long_number cast fits)) (rw (number_back cast fits) refl)
+act_back script broadcast fits = with_word (codes "act") (decimal broadcast) refl (decimal_plain broadcast (long_number broadcast fits)) (rw (number_back broadcast fits) refl)
 
 open_words : (hold file want fd : List ℕ)
     → 32 ∷ (codes "open h" ++ hold ++ codes " " ++ file ++ codes " " ++ want ++ codes " f" ++ fd)
@@ -383,7 +383,7 @@ event_back script (event.Abort label) fits own = abort_back script label fits
 event_back script (event.Override task label) fits own = override_back script task label fits
 event_back script (event.Revert task) fits own = revert_back script task fits
 event_back script (event.Begin task call) fits own = begin_back script task call fits
-event_back script (event.Act cast) fits own = act_back script cast fits
+event_back script (event.Act broadcast) fits own = act_back script broadcast fits
 event_back script (event.OpenFile hold file want fd) fits own = open_back script hold file want fd fits (alone (IsFile script) file own)
 event_back script (event.CloseFile fd) fits own = close_back script fd fits
 event_back script (event.Spawn task child) fits own = spawn_back script task child fits

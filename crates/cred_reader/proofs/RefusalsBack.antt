@@ -53,15 +53,15 @@ no_prepared_back k label fits =
     with_two (codes "no") (codes "prepared") (codes "h" ++ decimal label) (simp (append_assoc, append-nil))
     refl refl (rw (decimal_inner label (long_number label fits)) refl) (rw (number_back label fits) refl)
 
-pub no_broadcast_back : (k : Tells) (cast : ℕ) → FitsAnswer (answer.NoBroadcast cast) → AnswerBack k (answer.NoBroadcast cast)
+pub no_broadcast_back : (k : Tells) (broadcast : ℕ) → FitsAnswer (answer.NoBroadcast broadcast) → AnswerBack k (answer.NoBroadcast broadcast)
 unfolding spec.read_answer spec.read_refusal spec.three_words spec.no_of
-no_broadcast_back k cast fits =
-    with_two (codes "no") (codes "broadcast") (decimal cast) (simp append-nil)
-    refl refl (decimal_plain cast (long_number cast fits)) (rw (number_back cast fits) refl)
+no_broadcast_back k broadcast fits =
+    with_two (codes "no") (codes "broadcast") (decimal broadcast) (simp append-nil)
+    refl refl (decimal_plain broadcast (long_number broadcast fits)) (rw (number_back broadcast fits) refl)
 
-pub busy_back : (k : Tells) (cast : ℕ) → FitsAnswer (answer.Busy cast) → AnswerBack k (answer.Busy cast)
+pub busy_back : (k : Tells) (broadcast : ℕ) → FitsAnswer (answer.Busy broadcast) → AnswerBack k (answer.Busy broadcast)
 unfolding spec.read_answer spec.read_refusal spec.two_words
-busy_back k cast fits = with_word (codes "busy") (decimal cast) refl (decimal_plain cast (long_number cast fits)) (rw (number_back cast fits) refl)
+busy_back k broadcast fits = with_word (codes "busy") (decimal broadcast) refl (decimal_plain broadcast (long_number broadcast fits)) (rw (number_back broadcast fits) refl)
 
 pub exists_task_back : (k : Tells) (number : ℕ) → FitsAnswer (answer.Exists named.Task number) → AnswerBack k (answer.Exists named.Task number)
 unfolding spec.read_answer spec.read_refusal spec.two_words spec.exists_of

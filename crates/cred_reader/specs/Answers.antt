@@ -149,7 +149,8 @@ exists_of (first ∷ digits) = do
 -- a refusal of two words
 unfoldable pub two_words : List ℕ → List ℕ → Result Answer Reason
 two_words a b =
-    if bytes_eq a (codes "busy") then (word_of number_of b >>= λ cast. Ok (answer.Busy cast))
+    if bytes_eq a (codes "busy") then (word_of number_of b
+    >>= λ broadcast. Ok (answer.Busy broadcast))
     else if bytes_eq a (codes "exists") then exists_of b
     else if bytes_eq a (codes "overridden")
     then (word_of number_of b >>= λ depth. Ok (answer.Overridden depth))
@@ -168,7 +169,7 @@ no_of what word =
     else if bytes_eq what (codes "prepared")
     then (word_of label_word word >>= λ label. Ok (answer.NoPrepared label))
     else if bytes_eq what (codes "broadcast")
-    then (word_of number_of word >>= λ cast. Ok (answer.NoBroadcast cast))
+    then (word_of number_of word >>= λ broadcast. Ok (answer.NoBroadcast broadcast))
     else Err Word
 
 -- what there are too many of

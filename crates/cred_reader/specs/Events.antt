@@ -203,7 +203,7 @@ ptrace_of words = Err Count
 unfoldable pub event_named : List NamedFile → EventName → List (List ℕ) → Result Event Reason
 event_named files (name.Label kind) words = label_event files kind words
 event_named files (name.Task kind) words = task_event kind words
-event_named files name.Act words = one_of number_of words >>= λ cast. Ok (event.Act cast)
+event_named files name.Act words = one_of number_of words >>= λ broadcast. Ok (event.Act broadcast)
 event_named files name.CloseFile words = one_of fd_of words >>= λ fd. Ok (event.CloseFile fd)
 event_named files name.Sweep words = no_words words >>= λ end. Ok event.Sweep
 event_named files name.Ptrace words = ptrace_of words

@@ -312,7 +312,7 @@ fn event_named(
         EventName::Label(name) => Ok(label_event(script, name, words)?),
         EventName::Task(name) => task_event(alloc, name, words),
         EventName::Act => Ok(Event::Act {
-            cast: one::<Number>(words)?,
+            broadcast: one::<Number>(words)?,
         }),
         EventName::CloseFile => Ok(Event::CloseFile {
             fd: one::<Fd>(words)?,

@@ -55,7 +55,7 @@ event_text script (Override task label) =
     codes "override t" ++ decimal task ++ codes " h" ++ decimal label
 event_text script (Revert task) = codes "revert t" ++ decimal task
 event_text script (Begin task call) = codes "begin t" ++ decimal task ++ codes " " ++ call_text call
-event_text script (Act cast) = codes "act " ++ decimal cast
+event_text script (Act broadcast) = codes "act " ++ decimal broadcast
 event_text script (OpenFile hold file want fd) =
     codes "open h" ++ decimal hold ++ codes " " ++ file_text script file ++ codes " " ++
     want_text want

@@ -145,12 +145,12 @@ fn prepend_raw(out: &mut Pen, task: u32, call: &IdCall) -> Result<(), NoMemory>
 
 /// Writes the step of a thread in a call, which is told by its line: mostly that of the entry.
 #[inline(always)]
-fn prepend_act(out: &mut Pen, cast: u32)
+fn prepend_act(out: &mut Pen, broadcast: u32)
     requires { EVENT ≤ out.old.room }
-    ensures text { out.new.text ≡ (codes "act " ++ decimal cast) ++ out.old.text }
+    ensures text { out.new.text ≡ (codes "act " ++ decimal broadcast) ++ out.old.text }
     ensures room { out.old.room ≤ out.new.room + EVENT }
 {
-    out.line(cast);
+    out.line(broadcast);
     prepend_word(out, "act ")
 }
 
@@ -210,7 +210,7 @@ pub(crate) fn prepend_event(out: &mut Pen, script: &Script, event: &Event) -> Re
         Event::Override { task, label } => prepend_two(out, ("override t", *task), (" h", *label)),
         Event::Revert { task } => prepend_number(out, "revert t", *task),
         Event::Begin { task, call } => prepend_begin(out, *task, call)?,
-        Event::Act { cast } => prepend_act(out, *cast),
+        Event::Act { broadcast } => prepend_act(out, *broadcast),
         Event::OpenFile {
             hold,
             file,

@@ -51,16 +51,16 @@ committed_flags tasks flags owner task n change ends is found are = none_ends en
 renewed_flags : (s : State) (event : Event) (task : ℕ) (owner : Task) (ends : Task → Bool) (made : Answer × State) (c : Credential)
     → Cause s event task owner ends c made → task_of s task ≡ Some owner → AreFlagged s.tasks s.dumpable
     → AreFlagged (with_current (survivors ends s.tasks) task (length s.creds)) made.1.dumpable
-renewed_flags s event task owner ends made c (ByBegin call before number slot is has ruled new idle none casts answer flags) found are =
+renewed_flags s event task owner ends made c (ByBegin call before number slot is has ruled new idle none broadcasts answer flags) found are =
     let now = with_current (survivors ends s.tasks) task (length s.creds) in
     subst (AreFlagged now) (sym flags) (flags_renewed now s.dumpable owner.process _ (none_ends ends s.tasks s.dumpable task (length s.creds) none are))
-renewed_flags s event task owner ends made c (ByAct number slot cast before is opened first has ruled none casts answer flags) found are =
+renewed_flags s event task owner ends made c (ByAct number slot broadcast before is opened first has ruled none broadcasts answer flags) found are =
     let now = with_current (survivors ends s.tasks) task (length s.creds) in
     subst (AreFlagged now) (sym flags) (flags_renewed now s.dumpable owner.process _ (none_ends ends s.tasks s.dumpable task (length s.creds) none are))
-renewed_flags s event task owner ends made c (ByRaw call before slot is has ruled idle none casts answer flags) found are =
+renewed_flags s event task owner ends made c (ByRaw call before slot is has ruled idle none broadcasts answer flags) found are =
     let now = with_current (survivors ends s.tasks) task (length s.creds) in
     subst (AreFlagged now) (sym flags) (flags_renewed now s.dumpable owner.process _ (none_ends ends s.tasks s.dumpable task (length s.creds) none are))
-renewed_flags s event task owner ends made c (ByCommit label place slot count p last is first at own changed same cred ending casts answer flags) found are =
+renewed_flags s event task owner ends made c (ByCommit label place slot count p last is first at own changed same cred ending broadcasts answer flags) found are =
     let now = with_current (survivors ends s.tasks) task (length s.creds) in
     subst (AreFlagged now) (sym flags)
     (flags_done last.change last.gains now s.dumpable owner.process (differs_by s owner last)
@@ -68,24 +68,24 @@ renewed_flags s event task owner ends made c (ByCommit label place slot count p 
 
 created_flags : (s : State) (event : Event) (task child process n : ℕ) (made : Answer × State) → Creation s event task child process made
     → AreFlagged s.tasks s.dumpable → AreFlagged (s.tasks ++ first_task child process n ∷ []) made.1.dumpable
-created_flags s event task child process n made (BySpawn owner is found of casts flags) are =
+created_flags s event task child process n made (BySpawn owner is found of broadcasts flags) are =
     let new = first_task child process n in
     subst (AreFlagged (s.tasks ++ new ∷ [])) (sym flags)
     (flags_joined s.tasks s.dumpable new (ap (lives s.tasks) of ∙ owner_lives s.tasks owner task found) are)
-created_flags s event task child process n made (ByFork owner is found unused casts flags) are =
+created_flags s event task child process n made (ByFork owner is found unused broadcasts flags) are =
     let new = first_task child process n in
     subst (AreFlagged (s.tasks ++ new ∷ [])) (sym flags) (flags_more s.tasks s.dumpable new _ (ap is_some unused) are)
 
 fewer_flags : (s : State) (event : Event) (ends : Task → Bool) (made : Answer × State) → Death s event ends made → IsSound s
     → AreFlagged (survivors ends s.tasks) made.1.dumpable
-fewer_flags s event ends made (ByExit task owner is found ending idle casts flags) sound =
+fewer_flags s event ends made (ByExit task owner is found ending idle broadcasts flags) sound =
     subst (AreFlagged (survivors ends s.tasks)) (sym flags)
     (subst (λ (f : Task → Bool). AreFlagged (survivors f s.tasks) (flags_left s owner)) (sym ending)
     (flags_exited s.tasks s.dumpable owner task sound.tasks found sound.flags))
-fewer_flags s event ends made (ByAbort number task cause cast is ending casts answer flags) sound =
+fewer_flags s event ends made (ByAbort number task cause broadcast is ending broadcasts answer flags) sound =
     subst (AreFlagged (survivors ends s.tasks)) (sym flags)
-    (subst (λ (f : Task → Bool). AreFlagged (survivors f s.tasks) (without_flag s.dumpable cast.process)) (sym ending)
-    (flags_aborted s.tasks s.dumpable cast.process sound.flags))
+    (subst (λ (f : Task → Bool). AreFlagged (survivors f s.tasks) (without_flag s.dumpable broadcast.process)) (sym ending)
+    (flags_aborted s.tasks s.dumpable broadcast.process sound.flags))
 
 -- a first task
 begun_flags : (s : State) (t : Task) → AreFlagged s.tasks s.dumpable
@@ -98,16 +98,16 @@ begun_flags s t are =
 
 pub flags_after : {script : Script} → (s : State) (event : Event) (made : Answer × State) → TasksChange script s event made → IsSound s
     → AreFlagged made.1.tasks made.1.dumpable
-flags_after s event made (SameTasks same casts flags) sound = settled s.tasks s.dumpable made.1 same flags sound.flags
-flags_after s event made (SetsFlag task value owner flag is found known same casts flags) sound =
+flags_after s event made (SameTasks same broadcasts flags) sound = settled s.tasks s.dumpable made.1 same flags sound.flags
+flags_after s event made (SetsFlag task value owner flag is found known same broadcasts flags) sound =
     settled s.tasks (set_flag s.dumpable owner.process flag) made.1 same flags (flags_set s.tasks s.dumpable owner.process flag sound.flags)
-flags_after s event made (Creates task process user group ns slot is tasks creds new idle casts flags) sound =
+flags_after s event made (Creates task process user group ns slot is tasks creds new idle broadcasts flags) sound =
     settled _ _ made.1 tasks flags (begun_flags s (first_task task process (length s.creds)) sound.flags)
 flags_after s event made (Shares task child process parent tasks creds current new creation) sound =
     settled _ made.1.dumpable made.1 tasks refl (created_flags s event task child process parent.number made creation sound.flags)
 flags_after s event made (Renews task slot owner c ends tasks creds found cause) sound =
     settled _ made.1.dumpable made.1 tasks refl (renewed_flags s event task owner ends made c cause found sound.flags)
-flags_after s event made (Overrides task numbers tasks refer casts flags) sound =
+flags_after s event made (Overrides task numbers tasks refer broadcasts flags) sound =
     settled (map (overriding task numbers) s.tasks) s.dumpable made.1 tasks flags
     (flags_kept (overriding task numbers) s.tasks s.dumpable
     (λ t. overriding_as (λ r. r.process ≡ t.process) task numbers t refl refl) sound.flags)

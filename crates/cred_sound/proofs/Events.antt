@@ -25,7 +25,7 @@ use Rattle.cred_event.specs.declared.answer.Answer.{Answer}
 use Rattle.cred_event.specs.declared.answer.Answer.TheVariants.{Done, Sealed, Kept, Told, Einval, Stale, TableFull}
 use Rattle.cred_event.specs.declared.answer.Told.TheVariants as told
 use Rattle.cred_model.specs.Script.{Script, chain_of, root_of, reaches}
-use Rattle.cred_model.specs.State.{State, Task, OpenFile as Open, Hold, Prepared, Changed, Numbered, numbered, task_of, cast_in, begun_by, open_of, hold_of}
+use Rattle.cred_model.specs.State.{State, Task, OpenFile as Open, Hold, Prepared, Changed, Numbered, numbered, task_of, broadcast_in, begun_by, open_of, hold_of}
 use Rattle.cred_model.specs.State.{prepared_of, held_by, opener_of, credential_of, info_of}
 use Rattle.cred_model.specs.Slots.{refs}
 use Rattle.cred_model.specs.Named.{change_files}
@@ -37,7 +37,7 @@ use Rattle.cred_model.specs.Ptrace.{may_trace}
 use Rattle.cred_model.specs.Dumpable.{is_dumpable, set_flag, flags_begun, flags_committed, flag_of_value}
 use Rattle.cred_model.specs.Moves.{table_full, with_overrides, with_override, overridden, with_change}
 use Rattle.cred_model.specs.Moves.{first_task, created, preparing, committed, given_up}
-use Rattle.cred_model.specs.Step.{ends_with, casts_after, commit_answer, try_commit, take_hold, is_access, for_task, for_access, override_held}
+use Rattle.cred_model.specs.Step.{ends_with, broadcasts_after, commit_answer, try_commit, take_hold, is_access, for_task, for_access, override_held}
 use Rattle.cred_model.specs.Step.{override_prepared, by_file, outcome, step}
 use Rattle.cred_model.proofs.Lists.{All-at}
 use Rattle.cred_sound.specs.Ledger.{SealsOf}
@@ -45,7 +45,7 @@ use Rattle.cred_sound.proofs.References.{owner_stands, overrides_stand, credenti
 use Rattle.cred_sound.proofs.References.{held_stands, base_stands}
 use Rattle.cred_sound.proofs.Tests.{IfAllowed, outcome_has, if_some, if_none, if_either, if_fewer, if_passed, if_idle, if_own, if_last, if_ok, if_file_rule}
 use Rattle.cred_sound.proofs.Tests.{in_slots}
-use Rattle.cred_sound.proofs.Parts.{with_left, Old, OldOrNew, grows, casts_left, Changes, Seals, OfFirst, OfLabel, ByCommit, SetsFlag, Creates, Renews}
+use Rattle.cred_sound.proofs.Parts.{with_left, Old, OldOrNew, grows, broadcasts_left, Changes, Seals, OfFirst, OfLabel, ByCommit, SetsFlag, Creates, Renews}
 use Rattle.cred_sound.proofs.Parts.{Overrides, Stays, Adds, Removes, Prepares, Alters, Ends, SameInfos, Writes}
 use Rattle.cred_sound.proofs.OnePart.{still_left, gives_up, fits_own, still, refused, with_tasks, only_tasks, with_lists, with_prepared, only_infos}
 use Rattle.cred_sound.proofs.Calls.{ended_stay, begin_changes, act_changes, raw_changes, spawn_changes, fork_changes, exit_changes}
@@ -60,14 +60,14 @@ init_changes script s line task process user group ns =
     let first = first_task task process (length s.creds) in
     let c = first_credential user group ns (root_of script ns) in
     outcome_has Q s _ (refused script s event)
-    (if_idle Q (cast_in s process) _
+    (if_idle Q (broadcast_in s process) _
     (λ idle. if_none Q (task_of s task) _ _
     (λ new. if_fewer Q (length s.tasks) TASKS _ _
     (in_slots Q s table_full
     (λ s slot. (Sealed (length s.creds) slot, record (created s (first_task task process (length s.creds)) c slot) { dumpable = flags_begun s process }))
     (still script s event TableFull)
     (λ left slot fewer free.
-    with_tasks script s event (Sealed (length s.creds) slot) left (s.tasks ++ first ∷ []) s.casts (flags_begun s process) c slot left fewer free
+    with_tasks script s event (Sealed (length s.creds) slot) left (s.tasks ++ first ∷ []) s.broadcasts (flags_begun s process) c slot left fewer free
     (OfFirst user group ns (root_of script ns) refl)
     (Creates task process user group ns slot refl refl refl new idle refl refl) (still_left s left))))))
 
@@ -193,9 +193,9 @@ gives_up_prepared script s event answer label place p ends at is =
     with_prepared script s event answer s.deferred (remove s.prepared place) (s.deferred ++ p.base ∷ []) (All-contains_itself s.deferred)
     (Ends label place p ends refl at is) (gives_up s p.base (base_stands s place p is))
 
-only_casts : (change : Change) (owner : Task) (t : State) → casts_after change owner t ≡ record t { casts = casts_left change owner t.casts }
-only_casts (Exec file) owner t = refl
-only_casts change owner t = refl
+only_broadcasts : (change : Change) (owner : Task) (t : State) → broadcasts_after change owner t ≡ record t { broadcasts = broadcasts_left change owner t.broadcasts }
+only_broadcasts (Exec file) owner t = refl
+only_broadcasts change owner t = refl
 
 commit_fresh : (script : Script) (s : State) (label place : ℕ) (p : Prepared) (last : Changed) (owner : Task)
     → position (λ p. p.label == label) s.prepared ≡ Some place → slice_get s.prepared place ≡ Some p
@@ -203,7 +203,7 @@ commit_fresh : (script : Script) (s : State) (label place : ℕ) (p : Prepared) 
     → let ends = ends_with last.change owner in
     Changes script s (Commit label) (
       commit_answer last (length s.creds) p.slot (count_by ends s.tasks),
-      record (casts_after last.change owner (committed (ended ends s) place p owner.current last.cred)) { dumpable = flags_committed s owner last },
+      record (broadcasts_after last.change owner (committed (ended ends s) place p owner.current last.cred)) { dumpable = flags_committed s owner last },
     )
 commit_fresh script s label place p last owner at is changed found same =
     let Has = Contains (refs s) in
@@ -211,8 +211,8 @@ commit_fresh script s label place p last owner at is changed found same =
     let now = committed (ended ends s) place p owner.current last.cred in
     let answer = commit_answer last (length s.creds) p.slot (count_by ends s.tasks) in
     let flags = flags_committed s owner last in
-    let t = record now { casts = casts_left last.change owner now.casts; dumpable = flags } in
-    subst (λ t. Changes script s (Commit label) (answer, record t { dumpable = flags })) (sym (only_casts last.change owner now)) (record {
+    let t = record now { broadcasts = broadcasts_left last.change owner now.broadcasts; dumpable = flags } in
+    subst (λ t. Changes script s (Commit label) (answer, record t { dumpable = flags })) (sym (only_broadcasts last.change owner now)) (record {
       left = s.deferred;
       fewer = All-contains_itself s.deferred;
       tasks = Renews p.task p.slot owner last.cred ends refl refl found
@@ -233,7 +233,7 @@ try_commit_changes : (script : Script) (s : State) (label place : ℕ) (p : Prep
     → Changes script s (Commit label) (try_commit s place p owner last)
 try_commit_changes script s label place p last owner at is changed found =
     let ends = ends_with last.change owner in
-    elim (owner.current == p.base) as (λ b. (b ≡ true → owner.current ≡ p.base) → Changes script s (Commit label) (cond {A = Answer × State} b (commit_answer last (length s.creds) p.slot (count_by ends s.tasks), record (casts_after last.change owner (committed (ended ends s) place p owner.current last.cred)) { dumpable = flags_committed s owner last }) (Stale p.base owner.current, given_up s place p))) [
+    elim (owner.current == p.base) as (λ b. (b ≡ true → owner.current ≡ p.base) → Changes script s (Commit label) (cond {A = Answer × State} b (commit_answer last (length s.creds) p.slot (count_by ends s.tasks), record (broadcasts_after last.change owner (committed (ended ends s) place p owner.current last.cred)) { dumpable = flags_committed s owner last }) (Stale p.base owner.current, given_up s place p))) [
       | true ↦ λ same. commit_fresh script s label place p last owner at is changed found (same refl)
       | false ↦ λ same. gives_up_prepared script s (Commit label) (Stale p.base owner.current) label place p (inl refl) at is
     ] (eqb-true owner.current p.base)
@@ -282,7 +282,7 @@ override_held_has script s event task label owner held found is =
     let Q = Changes script s event in
     let t = with_override s owner held.number in
     if_fewer Q (length owner.overrides) DEPTH _ _
-    (only_tasks script s event (Sealed held.number held.slot) s.deferred t.tasks s.casts s.dumpable s.deferred (All-contains_itself s.deferred)
+    (only_tasks script s event (Sealed held.number held.slot) s.deferred t.tasks s.broadcasts s.dumpable s.deferred (All-contains_itself s.deferred)
     (Overrides owner.number (held.number ∷ owner.overrides) refl
     (λ left. All-cons (OldOrNew s left t) held.number owner.overrides (inl (held_by_stands (with_left s left) label held is))
     (own_overrides s t task owner found left)) refl refl)
@@ -348,7 +348,7 @@ revert_changes script s line task =
     let tasks = with_overrides s.tasks task (drop 1 owner.overrides) in
     let deferred = s.deferred ++ newest ∷ [] in
     let t = record s { tasks = tasks; deferred = deferred } in
-    only_tasks script s event Done s.deferred tasks s.casts s.dumpable deferred (All-contains_itself s.deferred)
+    only_tasks script s event Done s.deferred tasks s.broadcasts s.dumpable deferred (All-contains_itself s.deferred)
     (Overrides task (drop 1 owner.overrides) refl
     (λ left. All-drop (OldOrNew s left t) 1 owner.overrides (own_overrides s t task owner found left)) refl refl)
     (gives_up s newest (All-at (Contains (refs s)) owner.overrides 0 newest is (overrides_stand s task owner found))))))
@@ -362,7 +362,7 @@ dumpable_changes script s line task value =
     (if_some Q (task_of s task) _ _
     (λ owner found. if_some Q (flag_of_value value) _ _
     (λ flag is.
-    only_tasks script s event Done s.deferred s.tasks s.casts (set_flag s.dumpable owner.process flag) s.deferred (All-contains_itself s.deferred)
+    only_tasks script s event Done s.deferred s.tasks s.broadcasts (set_flag s.dumpable owner.process flag) s.deferred (All-contains_itself s.deferred)
     (SetsFlag task value owner flag refl found is refl refl refl) (still_left s s.deferred))))
 
 dumped_changes : (script : Script) (s : State) (line task : ℕ) → Changes script s (Dumped task) (step script s line (Dumped task))

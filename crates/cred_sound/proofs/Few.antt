@@ -14,7 +14,7 @@ use Rattle.cred_event.specs.declared.answer.Answer.{Answer}
 use Rattle.cred_event.specs.declared.answer.Answer.TheVariants.{Sealed}
 use Rattle.cred_event.specs.declared.entry.Entry.{Entry}
 use Rattle.cred_model.specs.Script.{Script, root_of}
-use Rattle.cred_model.specs.State.{State, Task, opening, numbered, task_of, cast_in, begun_by}
+use Rattle.cred_model.specs.State.{State, Task, opening, numbered, task_of, broadcast_in, begun_by}
 use Rattle.cred_model.specs.Dumpable.{flags_begun}
 use Rattle.cred_model.specs.Ends.{is_thread_of, survivors}
 use Rattle.cred_model.specs.Moves.{fewer_or, table_full, first_task, created, updated}
@@ -45,7 +45,7 @@ init_few script s line task process user group ns few =
     let first = first_task task process (length s.creds) in
     let c = first_credential user group ns (root_of script ns) in
     outcome_has AreFew s _ (λ answer. few)
-    (if_idle AreFew (cast_in s process) _
+    (if_idle AreFew (broadcast_in s process) _
     (λ idle. if_none AreFew (task_of s task) _ _
     (λ new. if_room AreFew (length s.tasks) TASKS _ _
     (λ room. in_slots AreFew s table_full
@@ -87,25 +87,25 @@ fewer_live ends tasks =
 
 created_few : (script : Script) (s : State) (line : ℕ) (event : Event) (task child process : ℕ) → length s.tasks ≤ TASKS
     → Creation s event task child process (step script s line event) → AreFew (step script s line event)
-created_few script s line event task child process few (BySpawn owner is found of casts flags) =
+created_few script s line event task child process few (BySpawn owner is found of broadcasts flags) =
     subst (λ e. AreFew (step script s line e)) (sym is) (spawn_few script s line task child few)
-created_few script s line event task child process few (ByFork by is known unused casts flags) =
+created_few script s line event task child process few (ByFork by is known unused broadcasts flags) =
     subst (λ e. AreFew (step script s line e)) (sym is) (fork_few script s line task child process few)
 
 kept_few : (script : Script) (s : State) (line : ℕ) (event : Event) → length s.tasks ≤ TASKS
     → TasksChange script s event (step script s line event) → AreFew (step script s line event)
-kept_few script s line event few (SameTasks same casts flags) =
+kept_few script s line event few (SameTasks same broadcasts flags) =
     let long = ap (λ (ts : List Task). length ts) same in omega (arith, long, few)
-kept_few script s line event few (SetsFlag task value owner flag is found known same casts flags) =
+kept_few script s line event few (SetsFlag task value owner flag is found known same broadcasts flags) =
     let long = ap (λ (ts : List Task). length ts) same in omega (arith, long, few)
-kept_few script s line event few (Creates task process user group ns slot is tasks creds new idle casts flags) =
+kept_few script s line event few (Creates task process user group ns slot is tasks creds new idle broadcasts flags) =
     subst (λ e. AreFew (step script s line e)) (sym is) (init_few script s line task process user group ns few)
 kept_few script s line event few (Shares task child process parent tasks creds current new creation) =
     created_few script s line event task child process few creation
 kept_few script s line event few (Renews task slot owner c ends tasks creds found cause) =
     let long = ap (λ (ts : List Task). length ts) tasks ∙ length-map (survivors ends s.tasks) (updated task (length s.creds)) in
     omega (arith, long, fewer_live ends s.tasks, few)
-kept_few script s line event few (Overrides task numbers tasks refer casts flags) =
+kept_few script s line event few (Overrides task numbers tasks refer broadcasts flags) =
     let long = ap (λ (ts : List Task). length ts) tasks ∙ length-map s.tasks (overriding task numbers) in
     omega (arith, long, few)
 kept_few script s line event few (Fewer ends tasks creds death) =

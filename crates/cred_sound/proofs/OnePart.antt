@@ -83,12 +83,12 @@ refused script s event answer = still script s event answer s.deferred (All-cont
 
 -- a task is created, or has another credential, which is sealed in a free slot
 pub with_tasks : (script : Script) (s : State) (event : Event) (answer : Answer) (left : List ℕ) (tasks : List Task)
-    (casts : List Broadcast) (flags : List ProcessFlag) (c : Credential) (slot : ℕ) (deferred : List ℕ)
-    → let t = record s { tasks = tasks; casts = casts; deferred = deferred; dumpable = flags; creds = s.creds ++ sealed_cred c slot ∷ [] } in
+    (broadcasts : List Broadcast) (flags : List ProcessFlag) (c : Credential) (slot : ℕ) (deferred : List ℕ)
+    → let t = record s { tasks = tasks; broadcasts = broadcasts; deferred = deferred; dumpable = flags; creds = s.creds ++ sealed_cred c slot ∷ [] } in
     All (Contains s.deferred) left → IsFree (with_left s left) slot → Origin s c → TasksChange script s event (answer, t)
     → All (Contains (refs (with_left s left))) deferred → Changes script s event (answer, t)
-with_tasks script s event answer left tasks casts flags c slot deferred fewer free origin change refer =
-    let t : State = record s { tasks = tasks; casts = casts; deferred = deferred; dumpable = flags; creds = s.creds ++ sealed_cred c slot ∷ [] } in
+with_tasks script s event answer left tasks broadcasts flags c slot deferred fewer free origin change refer =
+    let t : State = record s { tasks = tasks; broadcasts = broadcasts; deferred = deferred; dumpable = flags; creds = s.creds ++ sealed_cred c slot ∷ [] } in
     record {
       left = left;
       fewer = fewer;
@@ -102,12 +102,12 @@ with_tasks script s event answer left tasks casts flags c slot deferred fewer fr
     }
 
 -- tasks are created or end, and nothing is sealed
-pub only_tasks : (script : Script) (s : State) (event : Event) (answer : Answer) (left : List ℕ) (tasks : List Task) (casts : List Broadcast)
+pub only_tasks : (script : Script) (s : State) (event : Event) (answer : Answer) (left : List ℕ) (tasks : List Task) (broadcasts : List Broadcast)
     (flags : List ProcessFlag) (deferred : List ℕ)
-    → let t = record s { tasks = tasks; casts = casts; deferred = deferred; dumpable = flags } in
+    → let t = record s { tasks = tasks; broadcasts = broadcasts; deferred = deferred; dumpable = flags } in
     All (Contains s.deferred) left → TasksChange script s event (answer, t) → All (Contains (refs (with_left s left))) deferred
     → Changes script s event (answer, t)
-only_tasks script s event answer left tasks casts flags deferred fewer change refer = record {
+only_tasks script s event answer left tasks broadcasts flags deferred fewer change refer = record {
   left = left;
   fewer = fewer;
   tasks = change;

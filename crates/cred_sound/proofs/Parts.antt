@@ -16,7 +16,7 @@ use Rattle.cred_event.specs.declared.answer.Answer.{Answer}
 use Rattle.cred_event.specs.declared.answer.Answer.TheVariants.{Done, Sealed, Began, Acted, Aborted}
 use Rattle.cred_event.specs.declared.answer.AbortCause.{AbortCause}
 use Rattle.cred_model.specs.Script.{Script, chain_of, root_of}
-use Rattle.cred_model.specs.State.{State, SealedCred, Task, Broadcast, OpenFile, Hold, Prepared, Changed, Numbered, numbered, task_of, cast_of, cast_in}
+use Rattle.cred_model.specs.State.{State, SealedCred, Task, Broadcast, OpenFile, Hold, Prepared, Changed, Numbered, numbered, task_of, broadcast_of, broadcast_in}
 use Rattle.cred_model.specs.State.{begun_by, hold_of, prepared_of, current_of, info_of}
 use Rattle.cred_model.specs.Slots.{refs, kept}
 use Rattle.cred_model.specs.Named.{change_files}
@@ -25,7 +25,7 @@ use Rattle.cred_model.specs.Change.{by_change}
 use Rattle.cred_model.specs.Ends.{is_task, is_thread_of, survivors}
 use Rattle.cred_model.specs.Dumpable.{is_dumpable, with_process_flag, set_flag, without_flag, differs, renewed, flags_committed, flags_begun, flags_left}
 use Rattle.cred_model.specs.Dumpable.{flag_of_value}
-use Rattle.cred_model.specs.Casts.{others_of, with_cast, waits_no_more, joined, dropped}
+use Rattle.cred_model.specs.Casts.{others_of, with_broadcast, waits_no_more, joined, dropped}
 use Rattle.cred_model.specs.Moves.{with_change, with_current, with_overrides, first_task}
 use Rattle.cred_model.specs.Step.{commit_answer, ends_with}
 use Rattle.cred_sound.specs.Ledger.{IsClear, IsOrderly, SealsOf, ledger}
@@ -86,64 +86,64 @@ begun number owner call tasks = record {
 }
 
 -- the broadcasts that are left where this change is committed
-abbrev pub casts_left : Change → Task → List Broadcast → List Broadcast
-casts_left (Exec file) owner casts = dropped owner.process casts
-casts_left change owner casts = casts
+abbrev pub broadcasts_left : Change → Task → List Broadcast → List Broadcast
+broadcasts_left (Exec file) owner broadcasts = dropped owner.process broadcasts
+broadcasts_left change owner broadcasts = broadcasts
 
 -- Why a task's new credential comes in the place of its old one, and what becomes of the broadcasts
 -- and of its process's flag: it is what a call makes of that, the task's own or one that it follows, or what a
 -- label prepared.
 pub data Cause (s : State) (event : Event) (task : ℕ) (owner : Task) (ends : Task → Bool) (c : Credential) (made : Answer × State) : Type 0 where
   ByBegin : (call : IdCall) (before : Numbered) (number slot : ℕ) → event ≡ Begin task call → current_of s task ≡ Some before
-      → set_id before.cred call ≡ Ok c → cast_of s number ≡ None → cast_in s owner.process ≡ None → ends ≡ (λ t. false)
-      → made.1.casts ≡ with_cast s.casts (begun number owner call s.tasks)
+      → set_id before.cred call ≡ Ok c → broadcast_of s number ≡ None → broadcast_in s owner.process ≡ None → ends ≡ (λ t. false)
+      → made.1.broadcasts ≡ with_broadcast s.broadcasts (begun number owner call s.tasks)
       → made.0 ≡ Began (length s.creds) slot (length (others_of owner s.tasks))
       → made.1.dumpable ≡ renewed s.dumpable owner.process (differs before.cred c) → Cause s event task owner ends c made
-  ByAct : (number slot : ℕ) (cast : Broadcast) (before : Numbered) → event ≡ Act number → cast_of s number ≡ Some cast
-      → slice_get cast.waiting 0 ≡ Some task → current_of s task ≡ Some before → set_id before.cred cast.call ≡ Ok c
-      → ends ≡ (λ t. false) → made.1.casts ≡ waits_no_more task s.casts
-      → made.0 ≡ Acted task (length s.creds) slot (length cast.waiting - 1)
+  ByAct : (number slot : ℕ) (broadcast : Broadcast) (before : Numbered) → event ≡ Act number → broadcast_of s number ≡ Some broadcast
+      → slice_get broadcast.waiting 0 ≡ Some task → current_of s task ≡ Some before → set_id before.cred broadcast.call ≡ Ok c
+      → ends ≡ (λ t. false) → made.1.broadcasts ≡ waits_no_more task s.broadcasts
+      → made.0 ≡ Acted task (length s.creds) slot (length broadcast.waiting - 1)
       → made.1.dumpable ≡ renewed s.dumpable owner.process (differs before.cred c) → Cause s event task owner ends c made
   ByRaw : (call : IdCall) (before : Numbered) (slot : ℕ) → event ≡ Raw task call → current_of s task ≡ Some before
-      → set_id before.cred call ≡ Ok c → cast_in s owner.process ≡ None → ends ≡ (λ t. false) → made.1.casts ≡ s.casts
+      → set_id before.cred call ≡ Ok c → broadcast_in s owner.process ≡ None → ends ≡ (λ t. false) → made.1.broadcasts ≡ s.broadcasts
       → made.0 ≡ Sealed (length s.creds) slot → made.1.dumpable ≡ renewed s.dumpable owner.process (differs before.cred c)
       → Cause s event task owner ends c made
   ByCommit : (label place slot count : ℕ) (p : Prepared) (last : Changed) → event ≡ Commit label
       → position (λ p. p.label == label) s.prepared ≡ Some place → slice_get s.prepared place ≡ Some p → p.task ≡ task
       → p.changed ≡ Some last → owner.current ≡ p.base → c ≡ last.cred → ends ≡ ends_with last.change owner
-      → made.1.casts ≡ casts_left last.change owner s.casts → made.0 ≡ commit_answer last (length s.creds) slot count
+      → made.1.broadcasts ≡ broadcasts_left last.change owner s.broadcasts → made.0 ≡ commit_answer last (length s.creds) slot count
       → made.1.dumpable ≡ flags_committed s owner last → Cause s event task owner ends c made
 
 -- How a task is created that shares its parent's credential: as a thread of its process, which
 -- waits where it waits, or as the first of another process.
 pub data Creation (s : State) (event : Event) (task child process : ℕ) (made : Answer × State) : Type 0 where
   BySpawn : (owner : Task) → event ≡ Spawn task child → task_of s task ≡ Some owner → process ≡ owner.process
-      → made.1.casts ≡ joined task child s.casts → made.1.dumpable ≡ s.dumpable → Creation s event task child process made
+      → made.1.broadcasts ≡ joined task child s.broadcasts → made.1.dumpable ≡ s.dumpable → Creation s event task child process made
   ByFork : (owner : Task) → event ≡ Fork task child process → task_of s task ≡ Some owner → find (is_thread_of process) s.tasks ≡ None
-      → made.1.casts ≡ s.casts → made.1.dumpable ≡ with_process_flag s.dumpable process (is_dumpable s.dumpable owner.process)
+      → made.1.broadcasts ≡ s.broadcasts → made.1.dumpable ≡ with_process_flag s.dumpable process (is_dumpable s.dumpable owner.process)
       → Creation s event task child process made
 
 -- How tasks end, and no other has a new credential: a task exits, or all threads of a process end,
 -- as one of them can't follow.
 pub data Death (s : State) (event : Event) (ends : Task → Bool) (made : Answer × State) : Type 0 where
   ByExit : (task : ℕ) (owner : Task) → event ≡ Exit task → task_of s task ≡ Some owner → ends ≡ is_task task → begun_by s task ≡ None
-      → made.1.casts ≡ waits_no_more task s.casts → made.1.dumpable ≡ flags_left s owner → Death s event ends made
-  ByAbort : (number task : ℕ) (cause : AbortCause) (cast : Broadcast) → event ≡ Act number → ends ≡ is_thread_of cast.process
-      → made.1.casts ≡ dropped cast.process s.casts → made.0 ≡ Aborted task cause
-      → made.1.dumpable ≡ without_flag s.dumpable cast.process → Death s event ends made
+      → made.1.broadcasts ≡ waits_no_more task s.broadcasts → made.1.dumpable ≡ flags_left s owner → Death s event ends made
+  ByAbort : (number task : ℕ) (cause : AbortCause) (broadcast : Broadcast) → event ≡ Act number → ends ≡ is_thread_of broadcast.process
+      → made.1.broadcasts ≡ dropped broadcast.process s.broadcasts → made.0 ≡ Aborted task cause
+      → made.1.dumpable ≡ without_flag s.dumpable broadcast.process → Death s event ends made
 
 -- The tasks, the broadcasts and the flags of the processes: as they were, one flag that a task sets,
 -- a first task more, one more that shares its parent's credential, one of them with a new
 -- credential, perhaps after others have ended, one that acts with other credentials, or fewer.
 pub data TasksChange (script : Script) (s : State) (event : Event) (made : Answer × State) : Type 0 where
-  SameTasks : made.1.tasks ≡ s.tasks → made.1.casts ≡ s.casts → made.1.dumpable ≡ s.dumpable → TasksChange script s event made
+  SameTasks : made.1.tasks ≡ s.tasks → made.1.broadcasts ≡ s.broadcasts → made.1.dumpable ≡ s.dumpable → TasksChange script s event made
   SetsFlag : (task value : ℕ) (owner : Task) (flag : Bool) → event ≡ Dumpable task value → task_of s task ≡ Some owner
-      → flag_of_value value ≡ Some flag → made.1.tasks ≡ s.tasks → made.1.casts ≡ s.casts
+      → flag_of_value value ≡ Some flag → made.1.tasks ≡ s.tasks → made.1.broadcasts ≡ s.broadcasts
       → made.1.dumpable ≡ set_flag s.dumpable owner.process flag → TasksChange script s event made
   Creates : (task process user group ns slot : ℕ) → event ≡ Init task process user group ns
       → made.1.tasks ≡ s.tasks ++ first_task task process (length s.creds) ∷ []
       → made.1.creds ≡ s.creds ++ sealed_cred (first_credential user group ns (root_of script ns)) slot ∷ [] → task_of s task ≡ None
-      → cast_in s process ≡ None → made.1.casts ≡ s.casts → made.1.dumpable ≡ flags_begun s process → TasksChange script s event made
+      → broadcast_in s process ≡ None → made.1.broadcasts ≡ s.broadcasts → made.1.dumpable ≡ flags_begun s process → TasksChange script s event made
   Shares : (task child process : ℕ) (parent : Numbered)
       → made.1.tasks ≡ s.tasks ++ first_task child process parent.number ∷ [] → made.1.creds ≡ s.creds
       → current_of s task ≡ Some parent → task_of s child ≡ None → Creation s event task child process made → TasksChange script s event made
@@ -152,7 +152,7 @@ pub data TasksChange (script : Script) (s : State) (event : Event) (made : Answe
       → made.1.creds ≡ s.creds ++ sealed_cred c slot ∷ [] → task_of s task ≡ Some owner
       → Cause s event task owner ends c made → TasksChange script s event made
   Overrides : (task : ℕ) (numbers : List ℕ) → made.1.tasks ≡ with_overrides s.tasks task numbers
-      → ((left : List ℕ) → All (OldOrNew s left made.1) numbers) → made.1.casts ≡ s.casts → made.1.dumpable ≡ s.dumpable
+      → ((left : List ℕ) → All (OldOrNew s left made.1) numbers) → made.1.broadcasts ≡ s.broadcasts → made.1.dumpable ≡ s.dumpable
       → TasksChange script s event made
   Fewer : (ends : Task → Bool) → made.1.tasks ≡ survivors ends s.tasks → made.1.creds ≡ s.creds → Death s event ends made
       → TasksChange script s event made

@@ -27,7 +27,7 @@ use Rattle.cred_sound.proofs.Parts.{SetsFlag, Creates, Shares, Renews, Overrides
 use Rattle.cred_sound.proofs.Events.{changes}
 use Rattle.cred_sound.specs.Casts.{IsUnderWay}
 use Rattle.cred_sound.specs.Flags.{AreFlagged}
-use Rattle.cred_sound.proofs.Opened.{casts_open}
+use Rattle.cred_sound.proofs.Opened.{broadcasts_open}
 use Rattle.cred_sound.proofs.Dumpable.{flags_after}
 use Rattle.cred_sound.proofs.Unique.{tasks_differ, list_differs, labels_differ, labels_unheld}
 
@@ -40,10 +40,10 @@ record Refers (P : ℕ → Type 0) (t : Task) : Type 0 where
 
 tasks_refer : {script : Script} → (s : State) (event : Event) (left : List ℕ) (made : Answer × State) → TasksChange script s event made
     → All (Refers (OldOrNew s left made.1)) s.tasks → All (Refers (OldOrNew s left made.1)) made.1.tasks
-tasks_refer s event left made (SameTasks same casts flags) old = subst (All (Refers (OldOrNew s left made.1))) (sym same) old
-tasks_refer s event left made (SetsFlag task value owner flag is found known same casts flags) old =
+tasks_refer s event left made (SameTasks same broadcasts flags) old = subst (All (Refers (OldOrNew s left made.1))) (sym same) old
+tasks_refer s event left made (SetsFlag task value owner flag is found known same broadcasts flags) old =
     subst (All (Refers (OldOrNew s left made.1))) (sym same) old
-tasks_refer s event left made (Creates task process user group ns slot is tasks creds new idle casts flags) old =
+tasks_refer s event left made (Creates task process user group ns slot is tasks creds new idle broadcasts flags) old =
     subst (All (Refers (OldOrNew s left made.1))) (sym tasks)
     (All-push (Refers (OldOrNew s left made.1)) s.tasks _ old
     (record { current = inr (grows s made.1 _ creds); overrides = All-nil (OldOrNew s left made.1) }))
@@ -58,7 +58,7 @@ tasks_refer s event left made (Renews task slot owner c ends tasks creds found c
     (All-kept P (updated task (length s.creds)) rest
     (λ t one. updated_as P task (length s.creds) t (record { current = inr (grows s made.1 _ creds); overrides = one.overrides }) one)
     (All-filter (λ t. not (ends t)) P s.tasks old))
-tasks_refer s event left made (Overrides task numbers tasks refer casts flags) old =
+tasks_refer s event left made (Overrides task numbers tasks refer broadcasts flags) old =
     let P = Refers (OldOrNew s left made.1) in
     subst (All P) (sym tasks)
     (All-kept P (overriding task numbers) s.tasks
@@ -191,10 +191,10 @@ changes_orderly script s event made c order =
 changes_sound : (script : Script) (s : State) (event : Event) (made : Answer × State) → Changes script s event made → IsSound s
     → IsSound made.1
 changes_sound script s event made c sound =
-    let open_now = casts_open s event made c.tasks sound in
+    let open_now = broadcasts_open s event made c.tasks sound in
     record {
       tasks = tasks_differ s event made c.tasks sound.tasks;
-      casts = open_now.apart.numbers;
+      broadcasts = open_now.apart.numbers;
       processes = open_now.apart.processes;
       under_way = open_now.under_way;
       flags = flags_after s event made c.tasks sound;
@@ -212,7 +212,7 @@ step_sound script s line event sound =
 pub opening_sound : (script : Script) → IsSound (opening script)
 opening_sound script = record {
   tasks = λ i j d lt within. absurd (omega arith);
-  casts = λ i j d lt within. absurd (omega arith);
+  broadcasts = λ i j d lt within. absurd (omega arith);
   processes = λ i j d lt within. absurd (omega arith);
   under_way = λ k d lt. absurd (omega arith);
   flags = record { apart = λ i j d lt within. absurd (omega arith); own = λ process. refl };
@@ -245,10 +245,10 @@ sound_after script journal = sound_from script journal (opening script) (opening
 same_sound : (a b : State) → IsLike a b → ledger a ≡ ledger b → IsSound b → IsSound a
 same_sound a b like same sound = record {
   tasks = subst (AllPairs (λ a b. a.number ≢ b.number)) (sym like.tasks) sound.tasks;
-  casts = subst (AllPairs (λ a b. a.number ≢ b.number)) (sym like.casts) sound.casts;
-  processes = subst (AllPairs (λ a b. a.process ≢ b.process)) (sym like.casts) sound.processes;
-  under_way = subst (λ ts. All (IsUnderWay ts) a.casts) (sym like.tasks)
-      (subst (All (IsUnderWay b.tasks)) (sym like.casts) sound.under_way);
+  broadcasts = subst (AllPairs (λ a b. a.number ≢ b.number)) (sym like.broadcasts) sound.broadcasts;
+  processes = subst (AllPairs (λ a b. a.process ≢ b.process)) (sym like.broadcasts) sound.processes;
+  under_way = subst (λ ts. All (IsUnderWay ts) a.broadcasts) (sym like.tasks)
+      (subst (All (IsUnderWay b.tasks)) (sym like.broadcasts) sound.under_way);
   flags = subst (λ ts. AreFlagged ts a.dumpable) (sym like.tasks) (subst (AreFlagged b.tasks) (sym like.dumpable) sound.flags);
   files = subst (AllPairs (λ a b. a.fd ≢ b.fd)) (sym like.files) sound.files;
   holds = subst (AllPairs (λ a b. a.label ≢ b.label)) (sym like.holds) sound.holds;

@@ -66,7 +66,7 @@ if_passed Q answer f does = if_true Q (is_ok answer) answer f does
 pub if_idle : (Q : Answer × State → Type 0) (found : Option Broadcast) (f : Unit {0} → Result (Answer × State) Answer)
     → (found ≡ None → IfAllowed Q (f tt)) → IfAllowed Q (not_busy found >>= f)
 if_idle Q None f each = each refl
-if_idle Q (Some cast) f each = tt
+if_idle Q (Some broadcast) f each = tt
 
 pub if_own : (Q : Answer × State → Type 0) (t : Task) (f : Unit {0} → Result (Answer × State) Answer) → IfAllowed Q (f tt)
     → IfAllowed Q (not_overridden t >>= f)

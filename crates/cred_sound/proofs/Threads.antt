@@ -14,7 +14,7 @@ use Rattle.cred_ids.specs.Ordered.{in_order}
 use Rattle.cred_record.specs.declared.id_call.IdCall.{IdCall}
 use Rattle.cred_model.specs.State.{Task, Broadcast}
 use Rattle.cred_model.specs.Ends.{is_beside, survivors}
-use Rattle.cred_model.specs.Casts.{waits_in, is_open, with_cast, without_waiter, waits_no_more, with_child, joined, dropped}
+use Rattle.cred_model.specs.Casts.{waits_in, is_open, with_broadcast, without_waiter, waits_no_more, with_child, joined, dropped}
 use Rattle.cred_model.proofs.Numbers.{found_number}
 use Rattle.cred_model.proofs.Lists.{AllPairs-map, AllPairs-weaker, Differ, find_changed, none_passes}
 use Rattle.cred_model.proofs.Rising.{AllPairs-head, AllPairs-tail, All-in_order, any-in_order, length-in_order, rising-in_order, rising_differ, Below}
@@ -101,13 +101,13 @@ dead_differs tasks process number dead none is same =
 
 -- ---- a broadcast, and other tasks
 
-pub under_way_with : (tasks now : List Task) (cast : Broadcast)
-    → ((number : ℕ) → IsThread tasks cast.process number → IsThread now cast.process number)
-    → IsUnderWay tasks cast → IsUnderWay now cast
-under_way_with tasks now cast stays is = record {
-  caller = stays cast.caller is.caller;
+pub under_way_with : (tasks now : List Task) (broadcast : Broadcast)
+    → ((number : ℕ) → IsThread tasks broadcast.process number → IsThread now broadcast.process number)
+    → IsUnderWay tasks broadcast → IsUnderWay now broadcast
+under_way_with tasks now broadcast stays is = record {
+  caller = stays broadcast.caller is.caller;
   called = is.called;
-  waiting = All-weaker (IsThread tasks cast.process) (IsThread now cast.process) stays cast.waiting is.waiting;
+  waiting = All-weaker (IsThread tasks broadcast.process) (IsThread now broadcast.process) stays broadcast.waiting is.waiting;
   rising = is.rising;
   some = is.some;
 }
@@ -115,42 +115,42 @@ under_way_with tasks now cast stays is = record {
 -- ---- what an event makes of all that are open
 
 -- no two of one number, no two in one process
-pub record AreApart (casts : List Broadcast) : Type 0 where
-  pub numbers : AllPairs (Differ (λ (c : Broadcast). c.number)) casts
-  pub processes : AllPairs (Differ (λ (c : Broadcast). c.process)) casts
+pub record AreApart (broadcasts : List Broadcast) : Type 0 where
+  pub numbers : AllPairs (Differ (λ (c : Broadcast). c.number)) broadcasts
+  pub processes : AllPairs (Differ (λ (c : Broadcast). c.process)) broadcasts
 
 -- and each under way
-pub record AreOpen (tasks : List Task) (casts : List Broadcast) : Type 0 where
-  pub apart : AreApart casts
-  pub under_way : All (IsUnderWay tasks) casts
+pub record AreOpen (tasks : List Task) (broadcasts : List Broadcast) : Type 0 where
+  pub apart : AreApart broadcasts
+  pub under_way : All (IsUnderWay tasks) broadcasts
 
 -- the same broadcasts, where the threads stay
-pub open_with : (tasks now : List Task) (casts : List Broadcast)
+pub open_with : (tasks now : List Task) (broadcasts : List Broadcast)
     → ((process number : ℕ) → IsThread tasks process number → IsThread now process number)
-    → AreOpen tasks casts → AreOpen now casts
-open_with tasks now casts stays are = record {
+    → AreOpen tasks broadcasts → AreOpen now broadcasts
+open_with tasks now broadcasts stays are = record {
   apart = are.apart;
   under_way = All-weaker (IsUnderWay tasks) (IsUnderWay now)
-      (λ cast. under_way_with tasks now cast (stays cast.process)) casts are.under_way;
+      (λ broadcast. under_way_with tasks now broadcast (stays broadcast.process)) broadcasts are.under_way;
 }
 
-differ_changed : (f : Broadcast → ℕ) (g : Broadcast → Broadcast) (casts : List Broadcast) → ((c : Broadcast) → f (g c) ≡ f c)
-    → AllPairs (Differ f) casts → AllPairs (Differ f) (map g casts)
-differ_changed f g casts same each =
-    AllPairs-map (Differ f) g casts
-    (AllPairs-weaker (Differ f) (λ a b. Differ f (g a) (g b)) casts (λ a b apart is. apart (sym (same a) ∙ is ∙ same b)) each)
+differ_changed : (f : Broadcast → ℕ) (g : Broadcast → Broadcast) (broadcasts : List Broadcast) → ((c : Broadcast) → f (g c) ≡ f c)
+    → AllPairs (Differ f) broadcasts → AllPairs (Differ f) (map g broadcasts)
+differ_changed f g broadcasts same each =
+    AllPairs-map (Differ f) g broadcasts
+    (AllPairs-weaker (Differ f) (λ a b. Differ f (g a) (g b)) broadcasts (λ a b apart is. apart (sym (same a) ∙ is ∙ same b)) each)
 
-apart_changed : (g : Broadcast → Broadcast) (casts : List Broadcast) → ((c : Broadcast) → (g c).number ≡ c.number)
-    → ((c : Broadcast) → (g c).process ≡ c.process) → AreApart casts → AreApart (map g casts)
-apart_changed g casts numbers processes are = record {
-  numbers = differ_changed (λ c. c.number) g casts numbers are.numbers;
-  processes = differ_changed (λ c. c.process) g casts processes are.processes;
+apart_changed : (g : Broadcast → Broadcast) (broadcasts : List Broadcast) → ((c : Broadcast) → (g c).number ≡ c.number)
+    → ((c : Broadcast) → (g c).process ≡ c.process) → AreApart broadcasts → AreApart (map g broadcasts)
+apart_changed g broadcasts numbers processes are = record {
+  numbers = differ_changed (λ c. c.number) g broadcasts numbers are.numbers;
+  processes = differ_changed (λ c. c.process) g broadcasts processes are.processes;
 }
 
-apart_fewer : (test : Broadcast → Bool) (casts : List Broadcast) → AreApart casts → AreApart (filter test casts)
-apart_fewer test casts are = record {
-  numbers = AllPairs-filter (Differ (λ (c : Broadcast). c.number)) test casts are.numbers;
-  processes = AllPairs-filter (Differ (λ (c : Broadcast). c.process)) test casts are.processes;
+apart_fewer : (test : Broadcast → Bool) (broadcasts : List Broadcast) → AreApart broadcasts → AreApart (filter test broadcasts)
+apart_fewer test broadcasts are = record {
+  numbers = AllPairs-filter (Differ (λ (c : Broadcast). c.number)) test broadcasts are.numbers;
+  processes = AllPairs-filter (Differ (λ (c : Broadcast). c.process)) test broadcasts are.processes;
 }
 
 -- ---- a broadcast begins
@@ -213,23 +213,23 @@ begun_under_way tasks owner number call differ is some =
       some = some;
     }
 
-pub open_begun : (tasks : List Task) (casts : List Broadcast) (owner : Task) (number : ℕ) (call : IdCall)
+pub open_begun : (tasks : List Task) (broadcasts : List Broadcast) (owner : Task) (number : ℕ) (call : IdCall)
     → AllPairs (Differ (λ (t : Task). t.number)) tasks → find (λ t. t.number == owner.number) tasks ≡ Some owner
-    → find (λ b. b.number == number) casts ≡ None → find (λ b. b.process == owner.process) casts ≡ None
-    → AreOpen tasks casts → AreOpen tasks (with_cast casts (begun number owner call tasks))
-open_begun tasks casts owner number call differ is new idle are =
-    let cast = begun number owner call tasks in
-    elim (is_open cast) as (λ b. is_open cast ≡ b → AreOpen tasks (casts ++ cond b (cast ∷ []) [])) [
+    → find (λ b. b.number == number) broadcasts ≡ None → find (λ b. b.process == owner.process) broadcasts ≡ None
+    → AreOpen tasks broadcasts → AreOpen tasks (with_broadcast broadcasts (begun number owner call tasks))
+open_begun tasks broadcasts owner number call differ is new idle are =
+    let broadcast = begun number owner call tasks in
+    elim (is_open broadcast) as (λ b. is_open broadcast ≡ b → AreOpen tasks (broadcasts ++ cond b (broadcast ∷ []) [])) [
       | true ↦ λ some. record {
         apart = record {
-          numbers = all_pairs_push (Differ (λ (c : Broadcast). c.number)) casts cast are.apart.numbers
-              (none_has (λ c. c.number) casts number new);
-          processes = all_pairs_push (Differ (λ (c : Broadcast). c.process)) casts cast are.apart.processes
-              (none_has (λ c. c.process) casts owner.process idle);
+          numbers = all_pairs_push (Differ (λ (c : Broadcast). c.number)) broadcasts broadcast are.apart.numbers
+              (none_has (λ c. c.number) broadcasts number new);
+          processes = all_pairs_push (Differ (λ (c : Broadcast). c.process)) broadcasts broadcast are.apart.processes
+              (none_has (λ c. c.process) broadcasts owner.process idle);
         };
-        under_way = All-push (IsUnderWay tasks) casts cast are.under_way (begun_under_way tasks owner number call differ is some);
+        under_way = All-push (IsUnderWay tasks) broadcasts broadcast are.under_way (begun_under_way tasks owner number call differ is some);
       }
-      | false ↦ λ none. subst (AreOpen tasks) (sym (append-nil casts)) are
+      | false ↦ λ none. subst (AreOpen tasks) (sym (append-nil broadcasts)) are
     ] refl
 
 -- ---- a thread waits no longer
@@ -238,19 +238,19 @@ any_fewer : (p q : ℕ → Bool) (xs : List ℕ) → list_any p xs ≡ false →
 any_fewer p q xs none = list_any_none p (filter q xs) (All-filter q (λ x. p x ≡ false) xs (none_passes p xs none))
 
 -- it made its step, or ended
-pub open_left : (tasks now : List Task) (casts : List Broadcast) (task : ℕ)
-    → All (λ c. IsThread now c.process c.caller) casts
+pub open_left : (tasks now : List Task) (broadcasts : List Broadcast) (task : ℕ)
+    → All (λ c. IsThread now c.process c.caller) broadcasts
     → ((process number : ℕ) → number ≢ task → IsThread tasks process number → IsThread now process number)
-    → AreOpen tasks casts → AreOpen now (waits_no_more task casts)
-open_left tasks now casts task callers stays are =
-    let rest = map (without_waiter task) casts in
+    → AreOpen tasks broadcasts → AreOpen now (waits_no_more task broadcasts)
+open_left tasks now broadcasts task callers stays are =
+    let rest = map (without_waiter task) broadcasts in
     let goes_on : ℕ → Bool = λ n. not (n == task) in
     let Left : Broadcast → Type 0 = λ c. is_open c ≡ true → IsUnderWay now c in
     record {
-      apart = apart_fewer is_open rest (apart_changed (without_waiter task) casts (λ c. refl) (λ c. refl) are.apart);
+      apart = apart_fewer is_open rest (apart_changed (without_waiter task) broadcasts (λ c. refl) (λ c. refl) are.apart);
       under_way = All-passed is_open Left (IsUnderWay now) rest (λ c some holds. holds some)
-          (All-map Left (without_waiter task) casts (λ k d lt some.
-          let c = get_or casts k d in
+          (All-map Left (without_waiter task) broadcasts (λ k d lt some.
+          let c = get_or broadcasts k d in
           let was : IsUnderWay tasks c = are.under_way k d lt in
           record {
             caller = callers k d lt;
@@ -272,22 +272,22 @@ waits_at P n (x ∷ xs) each waits =
       | false ↦ λ other later. waits_at P n xs (All-tail P x xs each) later
     ] refl waits
 
-child_waits : (tasks : List Task) (child : Task) (cast : Broadcast) → find (λ t. t.number == child.number) tasks ≡ None
-    → child.process ≡ cast.process → IsUnderWay tasks cast
-    → IsUnderWay (tasks ++ child ∷ []) (record cast { waiting = in_order (cast.waiting ++ child.number ∷ []) })
-child_waits tasks child cast none same was =
+child_waits : (tasks : List Task) (child : Task) (broadcast : Broadcast) → find (λ t. t.number == child.number) tasks ≡ None
+    → child.process ≡ broadcast.process → IsUnderWay tasks broadcast
+    → IsUnderWay (tasks ++ child ∷ []) (record broadcast { waiting = in_order (broadcast.waiting ++ child.number ∷ []) })
+child_waits tasks child broadcast none same was =
     let now = tasks ++ child ∷ [] in
-    let p = cast.process in
-    let w = cast.waiting in
+    let p = broadcast.process in
+    let w = broadcast.waiting in
     let more = w ++ child.number ∷ [] in
     let stays = thread_among tasks (child ∷ []) p in
-    let differs : cast.caller ≢ child.number = dead_differs tasks p cast.caller child.number none was.caller in
-    let other : (child.number == cast.caller) ≡ false = grind (arith, nat_tests) in
+    let differs : broadcast.caller ≢ child.number = dead_differs tasks p broadcast.caller child.number none was.caller in
+    let other : (child.number == broadcast.caller) ≡ false = grind (arith, nat_tests) in
     record {
-      caller = stays cast.caller was.caller;
-      called = any-in_order (λ n. n == cast.caller) more
-          ∙ list_any-append (λ n. n == cast.caller) w (child.number ∷ [])
-          ∙ ap (λ b. b || ((child.number == cast.caller) || false)) was.called
+      caller = stays broadcast.caller was.caller;
+      called = any-in_order (λ n. n == broadcast.caller) more
+          ∙ list_any-append (λ n. n == broadcast.caller) w (child.number ∷ [])
+          ∙ ap (λ b. b || ((child.number == broadcast.caller) || false)) was.called
           ∙ ap (λ b. b || false) other;
       waiting = All-in_order (IsThread now p) more
           (All-push (IsThread now p) w child.number (All-weaker (IsThread tasks p) (IsThread now p) stays w was.waiting)
@@ -300,19 +300,19 @@ child_waits tasks child cast none same was =
     }
 
 -- a child waits where its parent waits
-pub open_joined : (tasks : List Task) (casts : List Broadcast) (parent : ℕ) (child : Task)
+pub open_joined : (tasks : List Task) (broadcasts : List Broadcast) (parent : ℕ) (child : Task)
     → find (λ t. t.number == child.number) tasks ≡ None → IsThread tasks child.process parent
-    → AreOpen tasks casts → AreOpen (tasks ++ child ∷ []) (joined parent child.number casts)
-open_joined tasks casts parent child none of are =
+    → AreOpen tasks broadcasts → AreOpen (tasks ++ child ∷ []) (joined parent child.number broadcasts)
+open_joined tasks broadcasts parent child none of are =
     let now = tasks ++ child ∷ [] in
     let g = with_child parent child.number in
     let waits : Broadcast → Broadcast = λ c. record c { waiting = in_order (c.waiting ++ child.number ∷ []) } in
     record {
-      apart = apart_changed g casts
+      apart = apart_changed g broadcasts
           (λ c. cond_both (waits_in parent c) (waits c) c (λ r. r.number ≡ c.number) (λ is. refl) (λ other. refl))
           (λ c. cond_both (waits_in parent c) (waits c) c (λ r. r.process ≡ c.process) (λ is. refl) (λ other. refl)) are.apart;
-      under_way = All-map (IsUnderWay now) g casts (λ k d lt.
-          let c = get_or casts k d in
+      under_way = All-map (IsUnderWay now) g broadcasts (λ k d lt.
+          let c = get_or broadcasts k d in
           let was : IsUnderWay tasks c = are.under_way k d lt in
           cond_both (waits_in parent c) (waits c) c (IsUnderWay now)
           (λ is.
@@ -323,14 +323,14 @@ open_joined tasks casts parent child none of are =
 
 -- ---- the broadcast of a process is dropped
 
-pub open_dropped : (tasks now : List Task) (casts : List Broadcast) (process : ℕ)
+pub open_dropped : (tasks now : List Task) (broadcasts : List Broadcast) (process : ℕ)
     → ((p number : ℕ) → p ≢ process → IsThread tasks p number → IsThread now p number)
-    → AreOpen tasks casts → AreOpen now (dropped process casts)
-open_dropped tasks now casts process stays are =
+    → AreOpen tasks broadcasts → AreOpen now (dropped process broadcasts)
+open_dropped tasks now broadcasts process stays are =
     let others : Broadcast → Bool = λ c. not (c.process == process) in
     record {
-      apart = apart_fewer others casts are.apart;
-      under_way = All-passed others (IsUnderWay tasks) (IsUnderWay now) casts
+      apart = apart_fewer others broadcasts are.apart;
+      under_way = All-passed others (IsUnderWay tasks) (IsUnderWay now) broadcasts
           (λ c other was.
           under_way_with tasks now c (λ n. stays c.process n (eqb-false c.process process (not_true (c.process == process) other))) was)
           are.under_way;

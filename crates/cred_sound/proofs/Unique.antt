@@ -39,9 +39,9 @@ prepared_as p = p.label
 
 pub tasks_differ : {script : Script} → (s : State) (event : Event) (made : Answer × State) → TasksChange script s event made
     → AllPairs (Differ number_of) s.tasks → AllPairs (Differ number_of) made.1.tasks
-tasks_differ s event made (SameTasks same casts flags) differ = subst (AllPairs (Differ number_of)) (sym same) differ
-tasks_differ s event made (SetsFlag task value owner flag is found known same casts flags) differ = subst (AllPairs (Differ number_of)) (sym same) differ
-tasks_differ s event made (Creates task process user group ns slot is tasks creds new idle casts flags) differ =
+tasks_differ s event made (SameTasks same broadcasts flags) differ = subst (AllPairs (Differ number_of)) (sym same) differ
+tasks_differ s event made (SetsFlag task value owner flag is found known same broadcasts flags) differ = subst (AllPairs (Differ number_of)) (sym same) differ
+tasks_differ s event made (Creates task process user group ns slot is tasks creds new idle broadcasts flags) differ =
     subst (AllPairs (Differ number_of)) (sym tasks)
     (all_pairs_push (Differ number_of) s.tasks (first_task task process _) differ (none_has number_of s.tasks task new))
 tasks_differ s event made (Shares task child process parent tasks creds current new creation) differ =
@@ -51,7 +51,7 @@ tasks_differ s event made (Renews task slot owner c ends tasks creds found cause
     subst (AllPairs (Differ number_of)) (sym tasks)
     (differ-map number_of (updated task _) (survivors ends s.tasks) (updated_number task _)
     (AllPairs-filter (Differ number_of) (λ t. not (ends t)) s.tasks differ))
-tasks_differ s event made (Overrides task numbers tasks refer casts flags) differ =
+tasks_differ s event made (Overrides task numbers tasks refer broadcasts flags) differ =
     subst (AllPairs (Differ number_of)) (sym tasks)
     (differ-map number_of (overriding task numbers) s.tasks (overriding_number task numbers) differ)
 tasks_differ s event made (Fewer ends tasks creds death) differ =

@@ -12,9 +12,9 @@ IsThread tasks process number =
 
 -- Somebody waits in the broadcast: live threads of its process, in rising order, none of them
 -- twice. Its caller is a live thread of that process too, and doesn't wait.
-pub record IsUnderWay (tasks : List Task) (cast : Broadcast) : Type 0 where
-  pub caller : IsThread tasks cast.process cast.caller
-  pub called : waits_in cast.caller cast ≡ false
-  pub waiting : All (IsThread tasks cast.process) cast.waiting
-  pub rising : AllPairs (λ a b. a < b) cast.waiting
-  pub some : is_open cast ≡ true
+pub record IsUnderWay (tasks : List Task) (broadcast : Broadcast) : Type 0 where
+  pub caller : IsThread tasks broadcast.process broadcast.caller
+  pub called : waits_in broadcast.caller broadcast ≡ false
+  pub waiting : All (IsThread tasks broadcast.process) broadcast.waiting
+  pub rising : AllPairs (λ a b. a < b) broadcast.waiting
+  pub some : is_open broadcast ≡ true

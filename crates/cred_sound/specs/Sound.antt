@@ -15,9 +15,9 @@ use Rattle.cred_sound.specs.Flags.{AreFlagged}
 -- has one flag, and no other has any. The references and the slots are in order.
 pub record IsSound (s : State) : Type 0 where
   pub tasks : AllPairs (λ a b. a.number ≢ b.number) s.tasks
-  pub casts : AllPairs (λ a b. a.number ≢ b.number) s.casts
-  pub processes : AllPairs (λ a b. a.process ≢ b.process) s.casts
-  pub under_way : All (IsUnderWay s.tasks) s.casts
+  pub broadcasts : AllPairs (λ a b. a.number ≢ b.number) s.broadcasts
+  pub processes : AllPairs (λ a b. a.process ≢ b.process) s.broadcasts
+  pub under_way : All (IsUnderWay s.tasks) s.broadcasts
   pub flags : AreFlagged s.tasks s.dumpable
   pub files : AllPairs (λ a b. a.fd ≢ b.fd) s.files
   pub holds : AllPairs (λ a b. a.label ≢ b.label) s.holds

@@ -15,7 +15,7 @@ use Rattle.cred_event.specs.declared.answer.AbortCause.{AbortCause}
 use Rattle.cred_event.specs.declared.answer.AbortCause.TheVariants.{Perm, Full}
 use Rattle.cred_event.specs.declared.answer.Answer.{Answer}
 use Rattle.cred_event.specs.declared.answer.Answer.TheVariants.{Acted, Aborted, NoBroadcast}
-use Rattle.cred_model.specs.State.{State, Task, Broadcast, Numbered, ProcessFlag, numbered, cast_of, current_of, task_of}
+use Rattle.cred_model.specs.State.{State, Task, Broadcast, Numbered, ProcessFlag, numbered, broadcast_of, current_of, task_of}
 use Rattle.cred_model.specs.Casts.{dropped, waits_in, waits_no_more}
 use Rattle.cred_model.specs.Dumpable.{differs, renewed, without_flag}
 use Rattle.cred_model.specs.Ends.{is_thread_of, survivors, left_by}
@@ -63,52 +63,52 @@ called_so P (Some b) call is p = subst P is p
 -- The least task that waits in the broadcast of this number is this one, which is alive and of the
 -- broadcast's process.
 pub record IsNext (s : State) (number task : ℕ) : Type 0 where
-  pub cast : Broadcast
-  pub found : cast_of s number ≡ Some cast
-  pub least : slice_get cast.waiting 0 ≡ Some task
+  pub broadcast : Broadcast
+  pub found : broadcast_of s number ≡ Some broadcast
+  pub least : slice_get broadcast.waiting 0 ≡ Some task
   pub owner : Task
   pub lives : task_of s task ≡ Some owner
-  pub of : owner.process ≡ cast.process
+  pub of : owner.process ≡ broadcast.process
 
 -- so it is alive
 pub next-lives : {s : State} {number task : ℕ} → IsNext s number task → IsSome (task_of s task)
 next-lives next = ap is_some next.lives
 
-pub next_is : (s : State) (number task : ℕ) → IsSound s → Some task ≡ option_and_then (λ b. slice_get b.waiting 0) (cast_of s number) → IsNext s number task
-next_is s number task sound is = by (cast_of s number) refl is
+pub next_is : (s : State) (number task : ℕ) → IsSound s → Some task ≡ option_and_then (λ b. slice_get b.waiting 0) (broadcast_of s number) → IsNext s number task
+next_is s number task sound is = by (broadcast_of s number) refl is
   where
-    by : (opened : Option Broadcast) → cast_of s number ≡ opened → Some task ≡ option_and_then (λ (b : Broadcast). slice_get b.waiting 0) opened
+    by : (opened : Option Broadcast) → broadcast_of s number ≡ opened → Some task ≡ option_and_then (λ (b : Broadcast). slice_get b.waiting 0) opened
         → IsNext s number task
     by None at is = cc
-    by (Some cast) at is =
-        let under_way = (found (IsUnderWay s.tasks) (λ (b : Broadcast). b.number == number) s.casts cast at sound.under_way).0 in
-        let waits = least_waits cast task (sym is) in
-        let thread = thread_is s.tasks cast.process task (waits_at (IsThread s.tasks cast.process) task cast.waiting under_way.waiting waits) in
-        record { cast = cast; found = at; least = sym is; owner = thread.task; lives = thread.is; of = thread.of }
+    by (Some broadcast) at is =
+        let under_way = (found (IsUnderWay s.tasks) (λ (b : Broadcast). b.number == number) s.broadcasts broadcast at sound.under_way).0 in
+        let waits = least_waits broadcast task (sym is) in
+        let thread = thread_is s.tasks broadcast.process task (waits_at (IsThread s.tasks broadcast.process) task broadcast.waiting under_way.waiting waits) in
+        record { broadcast = broadcast; found = at; least = sym is; owner = thread.task; lives = thread.is; of = thread.of }
 
 -- the call that the thread makes is that of its broadcast
-pub call_is : {s : State} {number task : ℕ} (next : IsNext s number task) (call : IdCall) → Some call ≡ option_map (λ b. b.call) (cast_of s number)
-    → call ≡ next.cast.call
-call_is next call is = let both : Some call ≡ Some next.cast.call = is ∙ ap (option_map (λ (b : Broadcast). b.call)) next.found in cc
+pub call_is : {s : State} {number task : ℕ} (next : IsNext s number task) (call : IdCall) → Some call ≡ option_map (λ b. b.call) (broadcast_of s number)
+    → call ≡ next.broadcast.call
+call_is next call is = let both : Some call ≡ Some next.broadcast.call = is ∙ ap (option_map (λ (b : Broadcast). b.call)) next.found in cc
 
 -- the broadcast's place among the open ones
-module _ {s : State} {number task : ℕ} (next : IsNext s number task) (place : ℕ) (under : slice_get s.casts place ≡ cast_of s number) where
-  pub cast_there : slice_get s.casts place ≡ Some next.cast
-  cast_there = under ∙ next.found
+module _ {s : State} {number task : ℕ} (next : IsNext s number task) (place : ℕ) (under : slice_get s.broadcasts place ≡ broadcast_of s number) where
+  pub broadcast_there : slice_get s.broadcasts place ≡ Some next.broadcast
+  broadcast_there = under ∙ next.found
 
-  pub cast_within : place < length s.casts
-  cast_within = slice_get_within s.casts place next.cast cast_there
+  pub broadcast_within : place < length s.broadcasts
+  broadcast_within = slice_get_within s.broadcasts place next.broadcast broadcast_there
 
-  pub waits_there : IsSomeAnd (slice_get s.casts place) (λ b. waits_in task b ≡ true)
-  waits_there = rw cast_there (least_waits next.cast task next.least)
+  pub waits_there : IsSomeAnd (slice_get s.broadcasts place) (λ b. waits_in task b ≡ true)
+  waits_there = rw broadcast_there (least_waits next.broadcast task next.least)
 
 -- the least task that waits where the broadcast of a number was found
-pub least_is : (s : State) (number place task : ℕ) → slice_get s.casts place ≡ cast_of s number → place < length s.casts
-    → IfSome (slice_get s.casts place) (λ b. slice_get b.waiting 0 ≡ Some task)
-    → Some task ≡ option_and_then (λ b. slice_get b.waiting 0) (cast_of s number)
+pub least_is : (s : State) (number place task : ℕ) → slice_get s.broadcasts place ≡ broadcast_of s number → place < length s.broadcasts
+    → IfSome (slice_get s.broadcasts place) (λ b. slice_get b.waiting 0 ≡ Some task)
+    → Some task ≡ option_and_then (λ b. slice_get b.waiting 0) (broadcast_of s number)
 least_is s number place task under within least =
-    let at = slice_get_at s.casts place within in
-    sym (if_some (λ (b : Broadcast). slice_get b.waiting 0 ≡ Some task) (slice_get s.casts place) at.0 at.1 least)
+    let at = slice_get_at s.broadcasts place within in
+    sym (if_some (λ (b : Broadcast). slice_get b.waiting 0 ≡ Some task) (slice_get s.broadcasts place) at.0 at.1 least)
     ∙ ap (option_and_then (λ (b : Broadcast). slice_get b.waiting 0)) (sym at.1 ∙ under)
 
 -- the thread's place in the table of tasks
@@ -130,21 +130,21 @@ module _ {s : State} {number task : ℕ} (next : IsNext s number task) (place : 
 
 -- ---- what the tests lead to
 
-pub act_none : (s : State) (number : ℕ) → None ≡ option_and_then (λ b. slice_get b.waiting 0) (cast_of s number)
+pub act_none : (s : State) (number : ℕ) → None ≡ option_and_then (λ b. slice_get b.waiting 0) (broadcast_of s number)
     → IsOutcomeLike (outcome s (by_act s number)) (NoBroadcast number) s
-act_none s number none = does_same _ _ _ (by (cast_of s number) refl none)
+act_none s number none = does_same _ _ _ (by (broadcast_of s number) refl none)
   where
-    by : (opened : Option Broadcast) → cast_of s number ≡ opened → None ≡ option_and_then (λ (b : Broadcast). slice_get b.waiting 0) opened
+    by : (opened : Option Broadcast) → broadcast_of s number ≡ opened → None ≡ option_and_then (λ (b : Broadcast). slice_get b.waiting 0) opened
         → outcome s (by_act s number) ≡ (NoBroadcast number, s)
     by None at none = rw at refl
-    by (Some cast) at none = rw (at, ← none) refl
+    by (Some broadcast) at none = rw (at, ← none) refl
 
-act_does : (task process old : ℕ) (new : Credential) (cast : Broadcast) (other : Bool) → State → ℕ
+act_does : (task process old : ℕ) (new : Credential) (broadcast : Broadcast) (other : Bool) → State → ℕ
     → Answer × State
-act_does task process old new cast other s slot = (
-  Acted task (length s.creds) slot (length cast.waiting - 1),
+act_does task process old new broadcast other s slot = (
+  Acted task (length s.creds) slot (length broadcast.waiting - 1),
   record (replaced s task old new slot) {
-    casts = waits_no_more task s.casts;
+    broadcasts = waits_no_more task s.broadcasts;
     dumpable = renewed s.dumpable process other;
   },
 )
@@ -157,13 +157,13 @@ module _ (s : State) (number task : ℕ) (next : IsNext s number task) where
   act_without none = does_same _ _ _ (rw (next.found, next.least, next.lives, own_of None none) refl)
 
   module _ (old : Numbered) (has : current_of s task ≡ Some old) where
-    pub act_refused : (denial : Denial) → set_id old.cred next.cast.call ≡ Err denial → outcome s (by_act s number) ≡ (Aborted task Perm, aborted next.cast s)
+    pub act_refused : (denial : Denial) → set_id old.cred next.broadcast.call ≡ Err denial → outcome s (by_act s number) ≡ (Aborted task Perm, aborted next.broadcast s)
     act_refused denial rule = rw (next.found, next.least, next.lives, own_of (Some old) has, rule) refl
 
-    act_tests : (new : Credential) → set_id old.cred next.cast.call ≡ Ok new
+    act_tests : (new : Credential) → set_id old.cred next.broadcast.call ≡ Ok new
         → outcome s (by_act s number)
-        ≡ in_slot s (λ r. (Aborted task Full, aborted next.cast r))
-        (act_does task next.owner.process old.number new next.cast (differs old.cred new))
+        ≡ in_slot s (λ r. (Aborted task Full, aborted next.broadcast r))
+        (act_does task next.owner.process old.number new next.broadcast (differs old.cred new))
     unfolding act_does
     act_tests new rule = rw (next.found, next.least, next.lives, own_of (Some old) has, rule) refl
 
@@ -208,13 +208,13 @@ gives_ok before after event (Err why) gives = tt
 pub aborts_so : {E : Type 0} (s left : State) (number task : ℕ) (cause : AbortCause) (after : State) (next : IsNext s number task) (made : Result Answer E)
     → left ≡ s
     → IfOk made (λ answer. answer ≡ Aborted task cause)
-    → OnOk made (IfSome (task_of left task) (λ owner. (cast : Broadcast) → cast.process ≡ owner.process → after ≡ aborted cast (at_abort cause left)))
-    → outcome s (by_act s number) ≡ (Aborted task cause, aborted next.cast (at_abort cause s))
+    → OnOk made (IfSome (task_of left task) (λ owner. (broadcast : Broadcast) → broadcast.process ≡ owner.process → after ≡ aborted broadcast (at_abort cause left)))
+    → outcome s (by_act s number) ≡ (Aborted task cause, aborted next.broadcast (at_abort cause s))
     → IfOk made (λ answer. IsOutcomeLike (outcome s (by_act s number)) answer after)
 aborts_so s left number task cause after next (Ok answer) same is ends gives =
-    let Ends : State → Task → Type 0 = λ x owner. (cast : Broadcast) → cast.process ≡ owner.process → after ≡ aborted cast (at_abort cause x) in
+    let Ends : State → Task → Type 0 = λ x owner. (broadcast : Broadcast) → broadcast.process ≡ owner.process → after ≡ aborted broadcast (at_abort cause x) in
     let ended = subst (λ (x : State). IfSome (task_of x task) (Ends x)) same ends in
-    let end = if_some (Ends s) (task_of s task) next.owner next.lives ended next.cast (sym next.of) in
+    let end = if_some (Ends s) (task_of s task) next.owner next.lives ended next.broadcast (sym next.of) in
     does_same _ _ _
     (gives ∙ ap (λ (r : State). (Aborted task cause, r)) (sym end) ∙ ap (λ (a : Answer). (a, after)) (sym is))
 aborts_so s left number task cause after next (Err e) same is ends gives = tt
@@ -235,35 +235,35 @@ module _ {parts : Parts} {store : List (Option Credential)} {t : Table} (is : Is
   abbrev left : Parts
   left = record parts {
     tasks = survivors (is_thread_of process) parts.tasks;
-    casts = dropped process parts.casts;
+    broadcasts = dropped process parts.broadcasts;
     dumpable = without_flag parts.dumpable process;
   }
 
   pub process_kept : IsKept left store after
   process_kept =
       kept_beside (ended_kept (abort_keeps cause is) (is_thread_of process) after all)
-      (dropped process parts.casts) (without_flag parts.dumpable process)
+      (dropped process parts.broadcasts) (without_flag parts.dumpable process)
 
-  pub process_ended : (cast : Broadcast) → cast.process ≡ process → state_of left store after ≡ aborted cast (at_abort cause (state_of parts store t))
-  process_ended cast of =
-      let ends : ℕ → State → State = λ p r. aborted (record cast { process = p }) r in
-      sym (ap (λ (r : State). aborted cast r) (abort_table cause parts store t)
+  pub process_ended : (broadcast : Broadcast) → broadcast.process ≡ process → state_of left store after ≡ aborted broadcast (at_abort cause (state_of parts store t))
+  process_ended broadcast of =
+      let ends : ℕ → State → State = λ p r. aborted (record broadcast { process = p }) r in
+      sym (ap (λ (r : State). aborted broadcast r) (abort_table cause parts store t)
       ∙ ap (λ (p : ℕ). ends p (state_of parts store (table_at cause t))) of
-      ∙ ap (λ (r : State). record r { casts = left.casts; dumpable = left.dumpable })
+      ∙ ap (λ (r : State). record r { broadcasts = left.broadcasts; dumpable = left.dumpable })
       (ended_is (abort_keeps cause is) (is_thread_of process) after all))
 
 -- ---- a step
 
 module _ {parts : Parts} {store : List (Option Credential)} {t : Table} (is : IsKept parts store t) (number task : ℕ) (next : IsNext (state_of parts store t) number task)
-    (old : Numbered) (current : current_of (state_of parts store t) task ≡ Some old) (new : Credential) (rule : set_id old.cred next.cast.call ≡ Ok new) where
+    (old : Numbered) (current : current_of (state_of parts store t) task ≡ Some old) (new : Credential) (rule : set_id old.cred next.broadcast.call ≡ Ok new) where
   abbrev s : State
   s = state_of parts store t
 
-  pub act_full : table.free_in t ≡ None → outcome s (by_act s number) ≡ (Aborted task Full, aborted next.cast (at_abort Full s))
+  pub act_full : table.free_in t ≡ None → outcome s (by_act s number) ≡ (Aborted task Full, aborted next.broadcast (at_abort Full s))
   act_full none =
       act_tests s number task next old current new rule
-      ∙ in_none_or is (λ r. (Aborted task Full, aborted next.cast r))
-      (act_does task next.owner.process old.number new next.cast (differs old.cred new)) none
+      ∙ in_none_or is (λ r. (Aborted task Full, aborted next.broadcast r))
+      (act_does task next.owner.process old.number new next.broadcast (differs old.cred new)) none
 
   -- the new credential is sealed in the table `between`, and the old one is given up after it
   module _ {between after : Table} {sealed slot : ℕ} (long : length store ≡ SLOTS) (seals : Seals t between sealed slot) (distinct : Differ parts.tasks)
@@ -274,30 +274,30 @@ module _ {parts : Parts} {store : List (Option Credential)} {t : Table} (is : Is
     abbrev pub end : Parts
     end = record parts {
       tasks = with_current parts.tasks task sealed;
-      casts = waits_no_more task parts.casts;
+      broadcasts = waits_no_more task parts.broadcasts;
       dumpable = flags;
     }
 
     pub act_kept : IsKept end (slice_set store slot (Some new)) after
     act_kept =
         replaced_kept is after task old new current long seals distinct late
-        (waits_no_more task parts.casts) flags
+        (waits_no_more task parts.broadcasts) flags
 
-    pub act_sealed : (left : ℕ) → left + 1 ≡ length next.cast.waiting
+    pub act_sealed : (left : ℕ) → left + 1 ≡ length next.broadcast.waiting
         → IsOutcomeLike (outcome s (by_act s number)) (Acted task sealed slot left) (state_of end (slice_set store slot (Some new)) after)
     unfolding act_does
     act_sealed left many =
-        let casts = waits_no_more task parts.casts in
+        let broadcasts = waits_no_more task parts.broadcasts in
         let made : ℕ → State = λ n. record (replaced (roomy is) task old.number new slot) {
           tasks = with_current parts.tasks task n;
-          casts = casts;
+          broadcasts = broadcasts;
           dumpable = flags;
         } in
-        let fewer : length next.cast.waiting - 1 ≡ left = omega (arith, many) in
-        replaced_made is after task old new current long seals distinct late casts flags
+        let fewer : length next.broadcast.waiting - 1 ≡ left = omega (arith, many) in
+        replaced_made is after task old new current long seals distinct late broadcasts flags
         (act_tests s number task next old current new rule
-        ∙ in_free_or is (λ r. (Aborted task Full, aborted next.cast r))
-        (act_does task next.owner.process old.number new next.cast (differs old.cred new)) slot
+        ∙ in_free_or is (λ r. (Aborted task Full, aborted next.broadcast r))
+        (act_does task next.owner.process old.number new next.broadcast (differs old.cred new)) slot
         seals.takes
-        ∙ ap (λ (n : ℕ). (Acted task n slot (length next.cast.waiting - 1), made n)) (counts_next is after task old new current long seals distinct late)
+        ∙ ap (λ (n : ℕ). (Acted task n slot (length next.broadcast.waiting - 1), made n)) (counts_next is after task old new current long seals distinct late)
         ∙ ap (λ (k : ℕ). (Acted task sealed slot k, made sealed)) fewer)

@@ -13,10 +13,10 @@ use Rattle.cred_rules.specs.SetId.{set_id}
 use Rattle.cred_event.specs.declared.answer.Answer.{Answer}
 use Rattle.cred_event.specs.declared.answer.Answer.TheVariants.{Began, Busy, Exists, NoTask, Overridden, TableFull}
 use Rattle.cred_event.specs.declared.answer.Named.TheVariants as named
-use Rattle.cred_model.specs.State.{State, Task, Broadcast, Numbered, ProcessFlag, numbered, task_of, current_of, cast_in, cast_of}
+use Rattle.cred_model.specs.State.{State, Task, Broadcast, Numbered, ProcessFlag, numbered, task_of, current_of, broadcast_in, broadcast_of}
 use Rattle.cred_model.specs.Ends.{is_beside}
 use Rattle.cred_model.specs.Answers.{refusal}
-use Rattle.cred_model.specs.Casts.{not_busy, with_cast, WaitsNowhere}
+use Rattle.cred_model.specs.Casts.{not_busy, with_broadcast, WaitsNowhere}
 use Rattle.cred_model.specs.Dumpable.{differs, renewed}
 use Rattle.cred_model.specs.Like.{IsOutcomeLike}
 use Rattle.cred_model.specs.Moves.{in_slot, table_full, not_overridden, with_current, replaced}
@@ -32,7 +32,7 @@ use Rattle.cred_cast.proofs.Conditions.{idle_waits_nowhere}
 use Rattle.cred_procs.specs.Tasks.{those}
 use Rattle.cred_slots.specs.Table.{Table, IsSameBag, IsOnlyUser}
 use Rattle.cred_slots.specs.Table as table
-use Rattle.cred_tables.specs.Begin.{MayBegin, MayWait, cast_begun}
+use Rattle.cred_tables.specs.Begin.{MayBegin, MayWait, broadcast_begun}
 use Rattle.cred_tables.specs.Kept.{Parts, state_of, IsKept, Seals}
 use Rattle.cred_tables.proofs.Filled.{filled_put, no_more_dropped, no_more_sealed}
 use Rattle.cred_tables.proofs.Bags.{bag-other}
@@ -42,13 +42,13 @@ use Rattle.cred_tables.proofs.Sealing.{roomy, in_free, in_none, keeps_same, Drop
 use Rattle.cred_tables.proofs.InUse.{Differ, in_use-updated}
 use Rattle.cred_tables.proofs.Stored.{does_made, length-creds_in, stored_like}
 
-begin_does : (task old : ℕ) (new : Credential) (cast : Broadcast) (other : Bool) → State → ℕ
+begin_does : (task old : ℕ) (new : Credential) (broadcast : Broadcast) (other : Bool) → State → ℕ
     → Answer × State
-begin_does task old new cast other s slot = (
-  Began (length s.creds) slot (length cast.waiting),
+begin_does task old new broadcast other s slot = (
+  Began (length s.creds) slot (length broadcast.waiting),
   record (replaced s task old new slot) {
-    casts = with_cast s.casts cast;
-    dumpable = renewed s.dumpable cast.process other;
+    broadcasts = with_broadcast s.broadcasts broadcast;
+    dumpable = renewed s.dumpable broadcast.process other;
   },
 )
 
@@ -66,16 +66,16 @@ module _ (s : State) (owner : Task) (sound : IsSound s) where
       is_thread s.tasks owner.process t.number (record { task = t; is = found; of = (beside_is owner t beside).0 })
 
   -- where no broadcast is open in the process, none of them waits
-  pub others_nowhere : cast_in s owner.process ≡ None → All (WaitsNowhere s.casts) (those (is_beside owner) s.tasks)
+  pub others_nowhere : broadcast_in s owner.process ≡ None → All (WaitsNowhere s.broadcasts) (those (is_beside owner) s.tasks)
   others_nowhere idle =
       let Found : Task → Type 0 = λ t. find (λ u. u.number == t.number) s.tasks ≡ Some t in
-      All-map (WaitsNowhere s.casts) (λ (t : Task). t.number) (filter (is_beside owner) s.tasks)
-      (All-passed (is_beside owner) Found (λ t. WaitsNowhere s.casts t.number) s.tasks
+      All-map (WaitsNowhere s.broadcasts) (λ (t : Task). t.number) (filter (is_beside owner) s.tasks)
+      (All-passed (is_beside owner) Found (λ t. WaitsNowhere s.broadcasts t.number) s.tasks
       (λ t beside found. idle_waits_nowhere s owner.process t.number sound idle (in_process t beside found))
       (finds_itself (λ (t : Task). t.number) s.tasks sound.tasks))
 
 -- the broadcast may be begun
-pub broadcast_may_begin : (s : State) (line task : ℕ) (old : Numbered) → MayBegin s line task old → IsSound s → MayWait s.tasks s.casts line task
+pub broadcast_may_begin : (s : State) (line task : ℕ) (old : Numbered) → MayBegin s line task old → IsSound s → MayWait s.tasks s.broadcasts line task
 broadcast_may_begin s line task old may sound = record {
   owner = may.owner;
   lives = may.lives;
@@ -97,7 +97,7 @@ module _ (s : State) (line task : ℕ) (call : IdCall) (old : Numbered) (may : M
   begin_tests : (new : Credential) → set_id old.cred call ≡ Ok new
       → outcome s (by_begin s line task call)
       ≡ in_slot s table_full
-      (begin_does task old.number new (cast_begun line task call may.owner s.tasks)
+      (begin_does task old.number new (broadcast_begun line task call may.owner s.tasks)
       (differs old.cred new))
   unfolding begin_does
   begin_tests new rule = rw (may.lives, own_number, may.idle, may.new, may.own, rule) refl
@@ -111,14 +111,14 @@ module _ (s : State) (line task : ℕ) (call : IdCall) where
     own_there : numbered s.creds owner.current ≡ Some old
     own_there = sym (ap (option_and_then (λ (t : Task). numbered s.creds t.current)) lives) ∙ has
 
-    pub begin_busy : (number : ℕ) → not_busy (cast_in s owner.process) ≡ Err (Busy number) → outcome s (by_begin s line task call) ≡ (Busy number, s)
+    pub begin_busy : (number : ℕ) → not_busy (broadcast_in s owner.process) ≡ Err (Busy number) → outcome s (by_begin s line task call) ≡ (Busy number, s)
     begin_busy number busy = rw (lives, own_there, busy) refl
 
-    module _ (idle : cast_in s owner.process ≡ None) where
-      pub begin_exists : is_some (cast_of s line) ≡ true → outcome s (by_begin s line task call) ≡ (Exists named.Broadcast line, s)
+    module _ (idle : broadcast_in s owner.process ≡ None) where
+      pub begin_exists : is_some (broadcast_of s line) ≡ true → outcome s (by_begin s line task call) ≡ (Exists named.Broadcast line, s)
       begin_exists there = rw (lives, own_there, idle, there) refl
 
-      pub begin_overridden : cast_of s line ≡ None → (depth : ℕ) → not_overridden owner ≡ Err (Overridden depth)
+      pub begin_overridden : broadcast_of s line ≡ None → (depth : ℕ) → not_overridden owner ≡ Err (Overridden depth)
           → outcome s (by_begin s line task call) ≡ (Overridden depth, s)
       begin_overridden new depth over = rw (lives, own_there, idle, new, over) refl
 
@@ -134,7 +134,7 @@ module _ {parts : Parts} {store : List (Option Credential)} {t : Table} (is : Is
       does_same _ _ _
       (begin_tests s line task call old may new rule
       ∙ in_none is
-      (begin_does task old.number new (cast_begun line task call may.owner parts.tasks)
+      (begin_does task old.number new (broadcast_begun line task call may.owner parts.tasks)
       (differs old.cred new)) after none makes)
 
   -- the new credential is sealed in the table `between`, and the old one is given up after it
@@ -162,52 +162,52 @@ module _ {parts : Parts} {store : List (Option Credential)} {t : Table} (is : Is
               (λ n ne some. no_more_sealed seals n ne (no_more_dropped between after (old.number ∷ []) late.held late.deferred n some)) is.filled;
         }
 
-    pub replaced_kept : (casts : List Broadcast) (flags : List ProcessFlag)
-        → IsKept (record parts { tasks = updated; casts = casts; dumpable = flags }) put after
-    replaced_kept casts flags = kept_beside updated_kept casts flags
+    pub replaced_kept : (broadcasts : List Broadcast) (flags : List ProcessFlag)
+        → IsKept (record parts { tasks = updated; broadcasts = broadcasts; dumpable = flags }) put after
+    replaced_kept broadcasts flags = kept_beside updated_kept broadcasts flags
 
     -- the state in which the credential is sealed under this number, if these broadcasts are open,
     -- and these are the flags of the processes
     abbrev made : List Broadcast → List ProcessFlag → ℕ → State
-    made casts flags n = record (replaced (roomy is) task old.number new slot) {
+    made broadcasts flags n = record (replaced (roomy is) task old.number new slot) {
       tasks = with_current parts.tasks task n;
-      casts = casts;
+      broadcasts = broadcasts;
       dumpable = flags;
     }
 
-    pub replaced_made : {gives : Answer × State} {answer : Answer} (casts : List Broadcast)
-        (flags : List ProcessFlag) → gives ≡ (answer, made casts flags number)
+    pub replaced_made : {gives : Answer × State} {answer : Answer} (broadcasts : List Broadcast)
+        (flags : List ProcessFlag) → gives ≡ (answer, made broadcasts flags number)
         → IsOutcomeLike gives answer
-        (state_of (record parts { tasks = updated; casts = casts; dumpable = flags }) put after)
-    replaced_made casts flags gives =
+        (state_of (record parts { tasks = updated; broadcasts = broadcasts; dumpable = flags }) put after)
+    replaced_made broadcasts flags gives =
         does_made gives
         (like_beside
-        (stored_like store after t.sealed new slot (made parts.casts parts.dumpable number)
+        (stored_like store after t.sealed new slot (made parts.broadcasts parts.dumpable number)
         updated_kept sealed_is (omega (arith, long, seals.in_table))
         (subst (λ (n : ℕ). IsOnlyUser after n slot) seals.counted (alone_later late seals.alone)) refl
         (late.deferred ∙ ap (λ (ds : List ℕ). ds ++ old.number ∷ []) seals.deferred) refl)
-        casts flags)
+        broadcasts flags)
 
     -- the number that is sealed is the count of the credentials
     pub counts_next : length (roomy is).creds ≡ number
     counts_next = length-creds_in store t.sealed ∙ sym seals.counted
 
     pub begin_sealed : (line : ℕ) (call : IdCall) (may : MayBegin s line task old) (count : ℕ) → set_id old.cred call ≡ Ok new
-        → count ≡ length (cast_begun line task call may.owner parts.tasks).waiting
+        → count ≡ length (broadcast_begun line task call may.owner parts.tasks).waiting
         → IsOutcomeLike (outcome s (by_begin s line task call)) (Began number slot count)
         (state_of (record parts {
           tasks = updated;
-          casts = with_cast parts.casts (cast_begun line task call may.owner parts.tasks);
+          broadcasts = with_broadcast parts.broadcasts (broadcast_begun line task call may.owner parts.tasks);
           dumpable = renewed parts.dumpable may.owner.process (differs old.cred new);
         }) put after)
     unfolding begin_does
     begin_sealed line call may count rule many =
-        let cast = cast_begun line task call may.owner parts.tasks in
-        let casts = with_cast parts.casts cast in
+        let broadcast = broadcast_begun line task call may.owner parts.tasks in
+        let broadcasts = with_broadcast parts.broadcasts broadcast in
         let other = differs old.cred new in
         let flags = renewed parts.dumpable may.owner.process other in
-        replaced_made casts flags
+        replaced_made broadcasts flags
         (begin_tests s line task call old may new rule
-        ∙ in_free is (begin_does task old.number new cast other) slot seals.takes
-        ∙ ap (λ (n : ℕ). (Began n slot (length cast.waiting), made casts flags n)) counts_next
-        ∙ ap (λ (k : ℕ). (Began number slot k, made casts flags number)) (sym many))
+        ∙ in_free is (begin_does task old.number new broadcast other) slot seals.takes
+        ∙ ap (λ (n : ℕ). (Began n slot (length broadcast.waiting), made broadcasts flags n)) counts_next
+        ∙ ap (λ (k : ℕ). (Began number slot k, made broadcasts flags number)) (sym many))

@@ -23,15 +23,15 @@ busy_by (Some b) (Some n) is =
     ap refused same
 
 -- Broadcasts refer to nothing.
-pub kept_casts : {parts : Parts} {store : List (Option Credential)} {t : Table} → IsKept parts store t → (casts : List Broadcast)
-    → IsKept (record parts { casts = casts }) store t
-kept_casts is casts = record { counted = is.counted; filled = is.filled }
+pub kept_broadcasts : {parts : Parts} {store : List (Option Credential)} {t : Table} → IsKept parts store t → (broadcasts : List Broadcast)
+    → IsKept (record parts { broadcasts = broadcasts }) store t
+kept_broadcasts is broadcasts = record { counted = is.counted; filled = is.filled }
 
 -- States that are alike stay so where both have these broadcasts.
-pub like_casts : {a b : State} → IsLike a b → (casts : List Broadcast) → IsLike (record a { casts = casts }) (record b { casts = casts })
-like_casts like casts = record {
+pub like_broadcasts : {a b : State} → IsLike a b → (broadcasts : List Broadcast) → IsLike (record a { broadcasts = broadcasts }) (record b { broadcasts = broadcasts })
+like_broadcasts like broadcasts = record {
   tasks = like.tasks;
-  casts = refl;
+  broadcasts = refl;
   files = like.files;
   holds = like.holds;
   prepared = like.prepared;
@@ -44,16 +44,16 @@ like_casts like casts = record {
 
 -- Nor do the flags of the processes.
 pub kept_beside : {parts : Parts} {store : List (Option Credential)} {t : Table}
-    → IsKept parts store t → (casts : List Broadcast) (flags : List ProcessFlag)
-    → IsKept (record parts { casts = casts; dumpable = flags }) store t
-kept_beside is casts flags = record { counted = is.counted; filled = is.filled }
+    → IsKept parts store t → (broadcasts : List Broadcast) (flags : List ProcessFlag)
+    → IsKept (record parts { broadcasts = broadcasts; dumpable = flags }) store t
+kept_beside is broadcasts flags = record { counted = is.counted; filled = is.filled }
 
-pub like_beside : {a b : State} → IsLike a b → (casts : List Broadcast) (flags : List ProcessFlag)
-    → IsLike (record a { casts = casts; dumpable = flags })
-    (record b { casts = casts; dumpable = flags })
-like_beside like casts flags = record {
+pub like_beside : {a b : State} → IsLike a b → (broadcasts : List Broadcast) (flags : List ProcessFlag)
+    → IsLike (record a { broadcasts = broadcasts; dumpable = flags })
+    (record b { broadcasts = broadcasts; dumpable = flags })
+like_beside like broadcasts flags = record {
   tasks = like.tasks;
-  casts = refl;
+  broadcasts = refl;
   files = like.files;
   holds = like.holds;
   prepared = like.prepared;

@@ -13,13 +13,13 @@ use Rattle.cred_event.specs.declared.answer.Answer.TheVariants.{Busy, NoTask, No
 use Rattle.cred_event.specs.declared.event.Change.{Change}
 use Rattle.cred_event.specs.declared.event.Change.TheVariants.{Exec}
 use Rattle.cred_model.specs.State.{State, Task, Prepared, Changed, Broadcast, ProcessFlag, task_of, begun_by, prepared_of}
-use Rattle.cred_model.specs.Casts.{not_busy, casts_left}
+use Rattle.cred_model.specs.Casts.{not_busy, broadcasts_left}
 use Rattle.cred_model.specs.Dumpable.{flags_committed}
 use Rattle.cred_model.specs.Slots.{in_use, kept}
 use Rattle.cred_model.specs.Ends.{survivors, ended}
 use Rattle.cred_model.specs.Like.{IsLike, IsOutcomeLike}
 use Rattle.cred_model.specs.Moves.{not_overridden, with_current, given_up, committed}
-use Rattle.cred_model.specs.Step.{by_abort, by_commit, outcome, try_commit, commit_answer, committed_by, casts_after, ends_with, for_task, is_access}
+use Rattle.cred_model.specs.Step.{by_abort, by_commit, outcome, try_commit, commit_answer, committed_by, broadcasts_after, ends_with, for_task, is_access}
 use Rattle.cred_model.proofs.Likes.{does_same}
 use Rattle.cred_slots.specs.Table.{Table, IsSameBag, is_kept_in}
 use Rattle.cred_slots.proofs.Counting.{count-cons}
@@ -78,7 +78,7 @@ try_commit_current : (s : State) (place : ℕ) (p : Prepared) (owner : Task) (la
     ≡ (
       commit_answer last (length s.creds) p.slot (count_by (ends_with last.change owner) s.tasks),
       record
-          (casts_after last.change owner
+          (broadcasts_after last.change owner
           (committed (ended (ends_with last.change owner) s) place p owner.current last.cred))
           { dumpable = flags_committed s owner last },
     )
@@ -133,9 +133,9 @@ module _ (s : State) (label : ℕ) (p : Prepared) (last : Changed) (found : prep
       ∙ ap (λ (r : State). (Stale p.base now, r)) left)
 
 -- an execve drops its process's broadcast
-casts_are_left : (change : Change) (owner : Task) (s : State) → casts_after change owner s ≡ record s { casts = casts_left change owner.process s.casts }
-casts_are_left (Exec file) owner s = refl
-casts_are_left change owner s = refl
+broadcasts_are_left : (change : Change) (owner : Task) (s : State) → broadcasts_after change owner s ≡ record s { broadcasts = broadcasts_left change owner.process s.broadcasts }
+broadcasts_are_left (Exec file) owner s = refl
+broadcasts_are_left change owner s = refl
 
 -- ---- who goes on
 
@@ -215,7 +215,7 @@ module _ {parts : Parts} {after : List Task} {store : List (Option Credential)} 
       abbrev end : Parts
       end = record parts {
         tasks = updated;
-        casts = casts_left change e.owner.process parts.casts;
+        broadcasts = broadcasts_left change e.owner.process parts.broadcasts;
         prepared = remove parts.prepared place;
         dumpable = flags;
       }
@@ -238,7 +238,7 @@ module _ {parts : Parts} {after : List Task} {store : List (Option Credential)} 
       fewer : NoMore t' mid
       fewer = no_more_dropped t' mid (now ∷ []) drops.held drops.deferred
 
-      on_kept : IsKept (record end { casts = parts.casts; dumpable = parts.dumpable }) put last_table
+      on_kept : IsKept (record end { broadcasts = parts.broadcasts; dumpable = parts.dumpable }) put last_table
       on_kept =
           finish_kept on_is place p there own updated last_table number drops.sealed drops.kept fewer refer (slice_get_within store p.slot _ words) seals
           last.cred
@@ -250,13 +250,13 @@ module _ {parts : Parts} {after : List Task} {store : List (Option Credential)} 
       pub commit_kept : IsKept end store last_table
       commit_kept =
           subst (λ (words : List (Option Credential)). IsKept end words last_table) put_same
-          (kept_beside on_kept (casts_left change e.owner.process parts.casts) flags)
+          (kept_beside on_kept (broadcasts_left change e.owner.process parts.broadcasts) flags)
 
       -- the state that the commit leads to, if the tasks that end leave these, in this state
       abbrev made : List Task → State → State
       made ts gone = record (committed gone place p e.owner.current last.cred) {
         tasks = with_current ts p.task number;
-        casts = casts_left change e.owner.process parts.casts;
+        broadcasts = broadcasts_left change e.owner.process parts.broadcasts;
         dumpable = flags;
       }
 
@@ -266,12 +266,12 @@ module _ {parts : Parts} {after : List Task} {store : List (Option Credential)} 
           (finish_like on_is place p there own updated last_table number drops.sealed drops.kept fewer refer (slice_get_within store p.slot _ words) seals
           last.cred
           (record (made after (state_of on store t')) {
-            casts = parts.casts;
+            broadcasts = parts.broadcasts;
             dumpable = parts.dumpable;
           }) refl
           (ap (λ (ds : List ℕ). ds ++ p.base ∷ []) drops.deferred ∙ append_assoc t'.deferred (now ∷ []) (p.base ∷ [])
           ∙ ap (λ (n : ℕ). t'.deferred ++ n ∷ p.base ∷ []) (sym e.current)) refl)
-          (casts_left change e.owner.process parts.casts) flags
+          (broadcasts_left change e.owner.process parts.broadcasts) flags
 
       pub commit_done : (label count : ℕ) → position (λ q. q.label == label) parts.prepared ≡ Some place → p.changed ≡ Some last → is_access last.change ≡ false
           → not_busy (begun_by before p.task) ≡ Ok tt → not_overridden e.owner ≡ Ok tt → last.change ≡ change → now ≡ p.base → count ≡ length ended_tasks
@@ -281,11 +281,11 @@ module _ {parts : Parts} {after : List Task} {store : List (Option Credential)} 
           = length-creds_in store t.sealed ∙ ap (λ (ss : List ℕ). length ss) (sym (drops.sealed ∙ e.all.sealed)) ∙ sym seals.counted in
           let ends : Task → Bool = ends_with change e.owner in
           let left : List Task = survivors ends parts.tasks in
-          let casts : List Broadcast = casts_left change e.owner.process parts.casts in
+          let broadcasts : List Broadcast = broadcasts_left change e.owner.process parts.broadcasts in
           let numbered : ℕ → State
           = λ n. record (committed (ended ends before) place p e.owner.current last.cred) {
             tasks = with_current left p.task n;
-            casts = casts;
+            broadcasts = broadcasts;
             dumpable = flags;
           } in
           subst
@@ -298,7 +298,7 @@ module _ {parts : Parts} {after : List Task} {store : List (Option Credential)} 
           ∙ ap (λ (c : Change). (
             committed_by c last.gains (length (creds_in store t.sealed)) p.slot (count_by (ends_with c e.owner) parts.tasks),
             record
-                (casts_after c e.owner
+                (broadcasts_after c e.owner
                 (committed (ended (ends_with c e.owner) before) place p e.owner.current last.cred))
                 { dumpable = flags },
           )) by
@@ -307,7 +307,7 @@ module _ {parts : Parts} {after : List Task} {store : List (Option Credential)} 
                 (count_by ends parts.tasks),
             record r { dumpable = flags },
           ))
-          (casts_are_left change e.owner (committed (ended ends before) place p e.owner.current last.cred))
+          (broadcasts_are_left change e.owner (committed (ended ends before) place p e.owner.current last.cred))
           ∙ ap (λ (n : ℕ). (committed_by change last.gains n p.slot (count_by ends parts.tasks), numbered n)) counted
           ∙ ap (λ (k : ℕ). (committed_by change last.gains number p.slot k, numbered number)) (sym (many ∙ e.many))
           ∙ ap (λ (gone : State). (committed_by change last.gains number p.slot count, made left gone)) (ended_is is ends t' e.all)

@@ -71,19 +71,19 @@ module _ (parts : Parts) (store : List (Option Credential)) (t : Table) {r later
   same : (after : Parts) → state_of after store t ≡ state_of after store later
   same after = sym (ap (state_of after store) made ∙ ap (state_of after store) spared)
 
-  pub spawn_done : {tasks : List Task} {casts : List Broadcast} → tasks ≡ spawned parts.tasks task child → casts ≡ joined task child parts.casts
-      → outcome s (by_spawn s task child) ≡ (Sealed now.number now.slot, state_of (record parts { tasks = tasks; casts = casts }) store later)
-  spawn_done {tasks = tasks} {casts = casts} grown joins =
+  pub spawn_done : {tasks : List Task} {broadcasts : List Broadcast} → tasks ≡ spawned parts.tasks task child → broadcasts ≡ joined task child parts.broadcasts
+      → outcome s (by_spawn s task child) ≡ (Sealed now.number now.slot, state_of (record parts { tasks = tasks; broadcasts = broadcasts }) store later)
+  spawn_done {tasks = tasks} {broadcasts = broadcasts} grown joins =
       let process = may.owner.process in
       let with_new : ℕ → List Task = λ n. parts.tasks ++ first_task child process n ∷ [] in
       let is : tasks ≡ with_new now.number
       = grown ∙ ap (λ (o : Option Task). option_map_or (λ (u : Task). parts.tasks ++ first_task child u.process u.current ∷ []) o parts.tasks) may.lives
       ∙ ap with_new number in
-      let does : outcome s (by_spawn s task child) ≡ (Sealed now.number now.slot, record s { tasks = with_new now.number; casts = joined task child parts.casts })
+      let does : outcome s (by_spawn s task child) ≡ (Sealed now.number now.slot, record s { tasks = with_new now.number; broadcasts = joined task child parts.broadcasts })
       = rw (may.lives, there, may.idle, may.new, may.own, few_tasks (length parts.tasks) may.few) refl in
       does
-      ∙ (λ i. (Sealed now.number now.slot, state_of (record parts { tasks = sym is i; casts = sym joins i }) store t))
-      ∙ ap (λ (x : State). (Sealed now.number now.slot, x)) (same (record parts { tasks = tasks; casts = casts }))
+      ∙ (λ i. (Sealed now.number now.slot, state_of (record parts { tasks = sym is i; broadcasts = sym joins i }) store t))
+      ∙ ap (λ (x : State). (Sealed now.number now.slot, x)) (same (record parts { tasks = tasks; broadcasts = broadcasts }))
 
   -- the flags of the processes, where the new one is dumpable as its creator's is
   abbrev forked_flags : ℕ → List ProcessFlag

@@ -8,7 +8,7 @@ use Rattle.cred_event.specs.declared.answer.Answer.{Answer}
 use Rattle.cred_event.specs.declared.answer.Answer.TheVariants.{Busy, Exists, Sealed, TableFull, TooMany}
 use Rattle.cred_event.specs.declared.answer.Named.TheVariants as named
 use Rattle.cred_event.specs.declared.answer.Counted.TheVariants as counted
-use Rattle.cred_model.specs.State.{State, Task, Broadcast, ProcessFlag, cast_in, task_of}
+use Rattle.cred_model.specs.State.{State, Task, Broadcast, ProcessFlag, broadcast_in, task_of}
 use Rattle.cred_model.specs.Casts.{not_busy}
 use Rattle.cred_model.specs.Dumpable.{flags_begun}
 use Rattle.cred_model.specs.Slots.{in_use}
@@ -22,7 +22,7 @@ use Rattle.cred_tables.specs.Kept.{Parts, state_of, IsKept, Seals}
 use Rattle.cred_tables.proofs.Filled.{filled_put, no_more_sealed}
 use Rattle.cred_tables.proofs.Bags.{bag-more}
 use Rattle.cred_tables.proofs.Sealing.{roomy, in_free, in_none, keeps_same, kept_more}
-use Rattle.cred_state.proofs.Broadcasts.{kept_casts}
+use Rattle.cred_state.proofs.Broadcasts.{kept_broadcasts}
 use Rattle.cred_tables.proofs.InUse.{in_use-task}
 use Rattle.cred_tables.proofs.Stored.{does_made, length-creds_in, stored_like}
 
@@ -49,7 +49,7 @@ init_does task process user group ns root s slot =
 pub few_tasks : (n : ℕ) → n < 64 → nat_lt n 64 ≡ true
 few_tasks n few = grind (arith, nat_tests)
 
-init_tests : (s : State) (task process user group ns root : ℕ) → not_busy (cast_in s process) ≡ Ok tt → find (λ t. t.number == task) s.tasks ≡ None
+init_tests : (s : State) (task process user group ns root : ℕ) → not_busy (broadcast_in s process) ≡ Ok tt → find (λ t. t.number == task) s.tasks ≡ None
     → length s.tasks < 64
     → outcome s (by_init s task process user group ns root) ≡ in_slot s table_full (init_does task process user group ns root)
 unfolding init_does
@@ -58,10 +58,10 @@ init_tests s task process user group ns root idle new few = rw (idle, new, few_t
 -- ---- what refuses it
 
 module _ (s : State) (task process user group ns root : ℕ) where
-  pub init_busy : (number : ℕ) → not_busy (cast_in s process) ≡ Err (Busy number) → outcome s (by_init s task process user group ns root) ≡ (Busy number, s)
+  pub init_busy : (number : ℕ) → not_busy (broadcast_in s process) ≡ Err (Busy number) → outcome s (by_init s task process user group ns root) ≡ (Busy number, s)
   init_busy number busy = rw busy refl
 
-  module _ (idle : not_busy (cast_in s process) ≡ Ok tt) where
+  module _ (idle : not_busy (broadcast_in s process) ≡ Ok tt) where
     pub init_exists : is_some (task_of s task) ≡ true → outcome s (by_init s task process user group ns root) ≡ (Exists named.Task task, s)
     init_exists there = rw (idle, there) refl
 
@@ -93,7 +93,7 @@ module _ {parts : Parts} {store : List (Option Credential)} {t : Table} (is : Is
       filled = filled_put store slot cred (omega (arith, long, seals.in_table)) seals.sealed (no_more_sealed seals) is.filled;
     }
 
-  module _ (idle : not_busy (cast_in s process) ≡ Ok tt) (new : find (λ u. u.number == task) parts.tasks ≡ None) (few : length parts.tasks < 64)
+  module _ (idle : not_busy (broadcast_in s process) ≡ Ok tt) (new : find (λ u. u.number == task) parts.tasks ≡ None) (few : length parts.tasks < 64)
       (user group ns root : ℕ) where
     pub init_full : table.free_in t ≡ None → state_of parts store (table.swept_table_if_full t) ≡ state_of parts store after
         → IsOutcomeLike (outcome s (by_init s task process user group ns root)) TableFull (state_of parts store after)
@@ -128,12 +128,12 @@ module _ {parts : Parts} {store : List (Option Credential)} {t : Table} (is : Is
 pub kept_child : {parts : Parts} {store : List (Option Credential)} {t r later : Table} {n m k : ℕ} → IsKept parts store t
     → (tasks : List Task) (child process : ℕ) (owner : Task) → tasks ≡ parts.tasks ++ first_task child process owner.current ∷ [] → n ≡ owner.current
     → r ≡ record t { spare = m } → IsSameBag later.held (n ∷ r.held) → later ≡ record r { held = later.held; spare = k }
-    → 0 < count_by (λ i. i == n) t.held → (casts : List Broadcast) → IsKept (record parts { tasks = tasks; casts = casts }) store later
-kept_child {parts} {store} {t} {r} {later} {n} is tasks child process owner grown number spared adds made has casts =
+    → 0 < count_by (λ i. i == n) t.held → (broadcasts : List Broadcast) → IsKept (record parts { tasks = tasks; broadcasts = broadcasts }) store later
+kept_child {parts} {store} {t} {r} {later} {n} is tasks child process owner grown number spared adds made has broadcasts =
     let s : State = state_of parts store t in
     let new : Task = first_task child process owner.current in
     let bag : IsSameBag (in_use (record s { tasks = parts.tasks ++ new ∷ [] })) (n ∷ in_use s)
     = subst (λ (x : ℕ). IsSameBag (in_use (record s { tasks = parts.tasks ++ new ∷ [] })) (x ∷ in_use s)) (sym number) (in_use-task s new refl) in
-    kept_casts
+    kept_broadcasts
     (subst (λ (ts : List Task). IsKept (record parts { tasks = ts }) store later) (sym grown) (kept_more is spared adds made bag refl has))
-    casts
+    broadcasts

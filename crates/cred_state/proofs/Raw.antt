@@ -13,7 +13,7 @@ use Rattle.cred_model.specs.Casts.{not_busy}
 use Rattle.cred_model.specs.Dumpable.{differs, renewed}
 use Rattle.cred_model.specs.Like.{IsOutcomeLike}
 use Rattle.cred_model.specs.Moves.{in_slot, table_full, not_overridden, with_current, replaced}
-use Rattle.cred_model.specs.State.{State, Task, Numbered, numbered, task_of, current_of, cast_in}
+use Rattle.cred_model.specs.State.{State, Task, Numbered, numbered, task_of, current_of, broadcast_in}
 use Rattle.cred_model.specs.Step.{by_raw, outcome}
 use Rattle.cred_model.proofs.Likes.{does_same}
 use Rattle.cred_slots.specs.Table.{Table}
@@ -58,11 +58,11 @@ module _ (s : State) (task : ℕ) (call : IdCall) where
     own_there : numbered s.creds owner.current ≡ Some old
     own_there = sym (ap (option_and_then (λ (t : Task). numbered s.creds t.current)) lives) ∙ has
 
-    pub raw_busy : (number : ℕ) → not_busy (cast_in s owner.process) ≡ Err (Busy number)
+    pub raw_busy : (number : ℕ) → not_busy (broadcast_in s owner.process) ≡ Err (Busy number)
         → outcome s (by_raw s task call) ≡ (Busy number, s)
     raw_busy number busy = rw (lives, own_there, busy) refl
 
-    pub raw_overridden : cast_in s owner.process ≡ None → (depth : ℕ)
+    pub raw_overridden : broadcast_in s owner.process ≡ None → (depth : ℕ)
         → not_overridden owner ≡ Err (Overridden depth)
         → outcome s (by_raw s task call) ≡ (Overridden depth, s)
     raw_overridden idle depth over = rw (lives, own_there, idle, over) refl
@@ -99,10 +99,10 @@ module _ {parts : Parts} {store : List (Option Credential)} {t : Table} (is : Is
           let flags = renewed parts.dumpable may.owner.process other in
           let made : ℕ → State = λ n. record (replaced (roomy is) task old.number new slot) {
             tasks = with_current parts.tasks task n;
-            casts = parts.casts;
+            broadcasts = parts.broadcasts;
             dumpable = flags;
           } in
-          replaced_made is after task old new has long seals distinct late parts.casts flags
+          replaced_made is after task old new has long seals distinct late parts.broadcasts flags
           (raw_tests s task call old may new rule
           ∙ in_free is (raw_does task may.owner.process old.number new other) slot seals.takes
           ∙ ap (λ (n : ℕ). (Sealed n slot, made n))

@@ -4,7 +4,7 @@ use Rattle.std.specs.declared.option.Option.{Option}
 use Rattle.cred_ids.specs.Limits.{TASKS, PREPARED}
 use Rattle.cred_event.specs.declared.answer.Answer.{Answer}
 use Rattle.cred_model.specs.State.{State, Task, Hold, Numbered, task_of, current_of, begun_by}
-use Rattle.cred_model.specs.State.{cast_in, hold_of, prepared_of}
+use Rattle.cred_model.specs.State.{broadcast_in, hold_of, prepared_of}
 use Rattle.cred_model.specs.Casts.{not_busy}
 use Rattle.cred_model.specs.Moves.{not_overridden}
 use Rattle.cred_model.specs.Step.{by_fork, by_spawn}
@@ -38,7 +38,7 @@ pub record MayCallAlone (s : State) (task : ℕ) (now : Numbered) : Type 0 where
   pub owner : Task
   pub lives : task_of s task ≡ Some owner
   pub has : current_of s task ≡ Some now
-  pub idle : cast_in s owner.process ≡ None
+  pub idle : broadcast_in s owner.process ≡ None
   pub own : not_overridden owner ≡ Ok tt
 
 -- a task creates a thread of its process, or the first one of a new process

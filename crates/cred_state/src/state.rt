@@ -50,7 +50,7 @@ use std::marker::Model;
 /// that may be a later credential. They see which cells the words are in, and what is lent of them.
 pub struct State {
     tasks: Procs,
-    casts: Casts,
+    broadcasts: Casts,
     files: Files,
     holds: Holds,
     prepared: Preparing,
@@ -68,14 +68,14 @@ impl Model for State {
     ghost Value = { Standing };
 
     ghost view = { λ s. record {
-      state = state_of (as_parts s.tasks s.casts s.files s.holds s.prepared s.dump s.infos)
+      state = state_of (as_parts s.tasks s.broadcasts s.files s.holds s.prepared s.dump s.infos)
           s.master.slots s.slots;
       words = record { id = s.master.id; out = s.master.loans };
       places = s.master.slots;
     } };
 
     ghost invariant = { λ s.
-        IsKept (as_parts s.tasks s.casts s.files s.holds s.prepared s.dump s.infos)
+        IsKept (as_parts s.tasks s.broadcasts s.files s.holds s.prepared s.dump s.infos)
         s.master.slots s.slots
         × ArePut s.prepared s.master.loans s.master.slots };
 }
@@ -86,7 +86,7 @@ impl Drop for State {
     fn drop(self) {
         let State {
             tasks,
-            casts,
+            broadcasts,
             files,
             holds,
             prepared,
@@ -97,7 +97,7 @@ impl Drop for State {
             alloc: _,
         } = self;
         drop(tasks);
-        drop(casts);
+        drop(broadcasts);
         drop(files);
         drop(holds);
         drop(prepared);
@@ -137,7 +137,7 @@ impl State {
         let infos = declared_files(alloc, script)?;
         Ok(State {
             tasks: Procs::new(alloc),
-            casts: Casts::new(alloc),
+            broadcasts: Casts::new(alloc),
             files: Files::new(alloc),
             holds: Holds::new(alloc),
             prepared: Preparing::new(alloc),
@@ -183,7 +183,7 @@ impl State {
             Event::Prepare { label, task, hold } => self.prepare(cells, *label, *task, *hold),
             Event::Commit { label } => self.commit(cells, *label),
             Event::Begin { task, call } => self.begin(cells, line, *task, call),
-            Event::Act { cast } => self.act(cells, *cast),
+            Event::Act { broadcast } => self.act(cells, *broadcast),
             _ => self.step_any(cells, script, line, event),
         }
     }
@@ -233,7 +233,7 @@ impl State {
             Event::Prepare { label, task, hold } => self.prepare(cells, *label, *task, *hold),
             Event::Commit { label } => self.commit(cells, *label),
             Event::Begin { task, call } => self.begin(cells, line, *task, call),
-            Event::Act { cast } => self.act(cells, *cast),
+            Event::Act { broadcast } => self.act(cells, *broadcast),
             Event::Init {
                 task,
                 process,

@@ -7,21 +7,21 @@ use Rattle.cred_ids.specs.Limits.{TASKS}
 use Rattle.cred_record.specs.declared.id_call.IdCall.{IdCall}
 use Rattle.cred_model.specs.State.{Task, Broadcast}
 use Rattle.cred_model.specs.Ends.{is_beside}
-use Rattle.cred_model.specs.Casts.{with_cast}
+use Rattle.cred_model.specs.Casts.{with_broadcast}
 use Rattle.cred_procs.specs.Tasks.{those}
-use Rattle.cred_tables.specs.Begin.{cast_begun}
+use Rattle.cred_tables.specs.Begin.{broadcast_begun}
 
 -- the broadcast that was entered is that of the call
-pub begun_casts : (casts now : List Broadcast) (tasks : List Task) (line task : ℕ) (owner : Task) (call : IdCall) {process : ℕ} {waiting : List ℕ}
+pub begun_broadcasts : (broadcasts now : List Broadcast) (tasks : List Task) (line task : ℕ) (owner : Task) (call : IdCall) {process : ℕ} {waiting : List ℕ}
     → process ≡ owner.process → waiting ≡ those (is_beside owner) tasks
-    → now ≡ with_cast casts (record { number = line; process = process; caller = task; call = call; waiting = in_order waiting })
-    → now ≡ with_cast casts (cast_begun line task call owner tasks)
-begun_casts casts now tasks line task owner call {waiting = waiting} of these is =
-    let cast : ℕ → List ℕ → Broadcast
+    → now ≡ with_broadcast broadcasts (record { number = line; process = process; caller = task; call = call; waiting = in_order waiting })
+    → now ≡ with_broadcast broadcasts (broadcast_begun line task call owner tasks)
+begun_broadcasts broadcasts now tasks line task owner call {waiting = waiting} of these is =
+    let broadcast : ℕ → List ℕ → Broadcast
     = λ p ns. record { number = line; process = p; caller = task; call = call; waiting = in_order ns } in
     is
-    ∙ ap (λ (p : ℕ). with_cast casts (cast p waiting)) of
-    ∙ ap (λ (ns : List ℕ). with_cast casts (cast owner.process ns)) these
+    ∙ ap (λ (p : ℕ). with_broadcast broadcasts (broadcast p waiting)) of
+    ∙ ap (λ (ns : List ℕ). with_broadcast broadcasts (broadcast owner.process ns)) these
 
 -- They are few.
 pub few_those : (passes : Task → Bool) (tasks : List Task) → length tasks ≤ TASKS → length (those passes tasks) < 2 ^ 32

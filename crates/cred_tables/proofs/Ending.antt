@@ -180,7 +180,7 @@ exit_tests : (s : State) (task : ℕ) (owner : Task) → task_of s task ≡ Some
     ≡ (
       Done,
       record (ended (is_task task) s) {
-        casts = waits_no_more task s.casts;
+        broadcasts = waits_no_more task s.broadcasts;
         dumpable = flags_left s owner;
       },
     )
@@ -190,7 +190,7 @@ exit_tests s task owner is idle own = rw (is, idle, own_owner s task owner is ow
 abbrev pub exited : Parts → List (Option Credential) → Table → ℕ → Task → Parts
 exited parts store t task owner = record parts {
   tasks = survivors (is_task task) parts.tasks;
-  casts = waits_no_more task parts.casts;
+  broadcasts = waits_no_more task parts.broadcasts;
   dumpable = flags_left (state_of parts store t) owner;
 }
 
@@ -203,5 +203,5 @@ pub exit_done : {parts : Parts} {store : List (Option Credential)} {t : Table}
 exit_done {parts} {store} {t} is task after all owner lives idle own =
     let left = exited parts store t task owner in
     exit_tests (state_of parts store t) task owner lives idle own
-    ∙ ap (λ (s : State). (Done, record s { casts = left.casts; dumpable = left.dumpable }))
+    ∙ ap (λ (s : State). (Done, record s { broadcasts = left.broadcasts; dumpable = left.dumpable }))
     (ended_is is (is_task task) after all)

@@ -145,7 +145,7 @@ module _ (a b : State) (like : IsLike a b) where
   like_over : IsLike a over
   like_over = record {
     tasks = refl;
-    casts = refl;
+    broadcasts = refl;
     files = refl;
     holds = refl;
     prepared = refl;
@@ -308,7 +308,7 @@ module _ (s : State) (sound : IsSound s) (label : ℕ) (p : Prepared) (is : prep
   pub cleared_like : IsLike (record s { creds = cleared p.slot s.creds }) s
   cleared_like = record {
     tasks = refl;
-    casts = refl;
+    broadcasts = refl;
     files = refl;
     holds = refl;
     prepared = refl;

@@ -77,10 +77,10 @@ process_there (Some t) alive is = rw is refl
 
 -- what holds of each broadcast of a process holds of those of the owner's, whose process it is
 pub for_owner : {P : Broadcast → Type 0} (found : Option Task) {process : Option ℕ} {number : ℕ} → process ≡ option_map (λ t. t.process) found
-    → process ≡ Some number → ((cast : Broadcast) → cast.process ≡ number → P cast)
-    → IfSome found (λ owner. (cast : Broadcast) → cast.process ≡ owner.process → P cast)
+    → process ≡ Some number → ((broadcast : Broadcast) → broadcast.process ≡ number → P broadcast)
+    → IfSome found (λ owner. (broadcast : Broadcast) → broadcast.process ≡ owner.process → P broadcast)
 for_owner None is at each = tt
 for_owner (Some t) {number = number} is at each =
     let same : Some t.process ≡ Some number = sym is ∙ at in
     let of : t.process ≡ number = cc in
-    λ cast own. each cast (own ∙ of)
+    λ broadcast own. each broadcast (own ∙ of)

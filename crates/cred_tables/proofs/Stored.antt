@@ -72,7 +72,7 @@ refs-counted {a = a} {t = t} is k d lt =
 
 -- the parts of a state
 abbrev pub parts_in : State → Parts
-parts_in s = as_parts s.tasks s.casts s.files s.holds s.prepared s.dumpable s.infos
+parts_in s = as_parts s.tasks s.broadcasts s.files s.holds s.prepared s.dumpable s.infos
 
 -- The state in which the credential is put in the slot's place is like the one in which it is
 -- sealed, since nothing else that stood there is referred to any more.
@@ -94,7 +94,7 @@ stored_like {parts = parts} store t before c slot made is sealed within alone sa
     omega (arith, is_new, lt) in
     record {
       tasks = ap (λ (p : Parts). p.tasks) same;
-      casts = ap (λ (p : Parts). p.casts) same;
+      broadcasts = ap (λ (p : Parts). p.broadcasts) same;
       files = ap (λ (p : Parts). p.files) same;
       holds = ap (λ (p : Parts). p.holds) same;
       prepared = ap (λ (p : Parts). p.prepared) same;
@@ -132,7 +132,7 @@ pub spare_like : {parts : Parts} (store : List (Option Credential)) (t : Table) 
     → IsLike (state_of parts (slice_set store slot v) t) (state_of parts store t)
 spare_like {parts = parts} store t slot v is none = record {
   tasks = refl;
-  casts = refl;
+  broadcasts = refl;
   files = refl;
   holds = refl;
   prepared = refl;

@@ -6,12 +6,13 @@ use Rattle.std.specs.Option.{option_and_then}
 use Rattle.cred_record.specs.declared.id_call.IdCall.{IdCall}
 use Rattle.cred_event.specs.declared.answer.AbortCause.{AbortCause}
 use Rattle.cred_event.specs.declared.answer.AbortCause.TheVariants.{Perm, Full}
-use Rattle.cred_model.specs.State.{State, Task, Broadcast, Numbered, task_of, current_of, cast_of}
-use Rattle.cred_model.specs.State.{cast_in}
-use Rattle.cred_model.specs.Casts.{others_of, with_cast, WaitsNowhere}
+use Rattle.cred_model.specs.State.{State, Task, Broadcast, Numbered, task_of, current_of}
+use Rattle.cred_model.specs.State.{broadcast_of}
+use Rattle.cred_model.specs.State.{broadcast_in}
+use Rattle.cred_model.specs.Casts.{others_of, with_broadcast, WaitsNowhere}
 use Rattle.cred_model.specs.Ends.{is_beside}
 use Rattle.cred_model.specs.Moves.{not_overridden}
-use Rattle.cred_cast.specs.Casts.{cast_under, cast_within}
+use Rattle.cred_cast.specs.Casts.{broadcast_under, broadcast_within}
 use Rattle.cred_procs.specs.Tasks.{task_in, those}
 use Rattle.cred_slots.specs.Table.{Table}
 use Rattle.cred_slots.specs.Table as table
@@ -22,15 +23,15 @@ pub record MayBegin (s : State) (line task : ℕ) (now : Numbered) : Type 0 wher
   pub owner : Task
   pub lives : task_of s task ≡ Some owner
   pub has : current_of s task ≡ Some now
-  pub idle : cast_in s owner.process ≡ None
-  pub new : cast_of s line ≡ None
+  pub idle : broadcast_in s owner.process ≡ None
+  pub new : broadcast_of s line ≡ None
   pub own : not_overridden owner ≡ Ok tt
 
 -- The broadcast of this number stands in this place, `cast`. The least thread that waits in it is
 -- this one. It stands in this place among the tasks, and this is its current credential.
-pub record ActsNext (s : State) (number cast task place : ℕ) (now : Numbered) : Type 0 where
-  pub under : slice_get s.casts cast ≡ cast_of s number
-  pub least : Some task ≡ option_and_then (λ b. slice_get b.waiting 0) (cast_of s number)
+pub record ActsNext (s : State) (number broadcast task place : ℕ) (now : Numbered) : Type 0 where
+  pub under : slice_get s.broadcasts broadcast ≡ broadcast_of s number
+  pub least : Some task ≡ option_and_then (λ b. slice_get b.waiting 0) (broadcast_of s number)
   pub there : slice_get s.tasks place ≡ task_of s task
   pub has : current_of s task ≡ Some now
 
@@ -40,8 +41,8 @@ table_at Perm t = t
 table_at Full t = table.swept_table t
 
 -- the broadcast of a task's call, in which the other threads of its process wait
-abbrev pub cast_begun : ℕ → ℕ → IdCall → Task → List Task → Broadcast
-cast_begun line task call owner tasks = record {
+abbrev pub broadcast_begun : ℕ → ℕ → IdCall → Task → List Task → Broadcast
+broadcast_begun line task call owner tasks = record {
   number = line;
   process = owner.process;
   caller = task;
@@ -51,15 +52,16 @@ cast_begun line task call owner tasks = record {
 
 -- The broadcast of a task's call may be begun: the other threads of its process wait nowhere, none
 -- is open in its process, and none has the line's number.
-pub record MayWait (tasks : List Task) (casts : List Broadcast) (line task : ℕ) : Type 0 where
+pub record MayWait (tasks : List Task) (broadcasts : List Broadcast) (line task : ℕ) : Type 0 where
   pub owner : Task
   pub lives : task_in tasks task ≡ Some owner
-  pub new : cast_under casts line ≡ None
-  pub idle : cast_within casts owner.process ≡ None
+  pub new : broadcast_under broadcasts line ≡ None
+  pub idle : broadcast_within broadcasts owner.process ≡ None
   pub once : AllPairs (λ a b. a ≢ b) (those (is_beside owner) tasks)
-  pub nowhere : All (WaitsNowhere casts) (those (is_beside owner) tasks)
+  pub nowhere : All (WaitsNowhere broadcasts) (those (is_beside owner) tasks)
 
 -- The broadcast was begun, in which so many wait. Where nobody does it isn't open.
-pub record HasBegun (before after : List Broadcast) (cast : Broadcast) (left : ℕ) : Type 0 where
-  pub casts : after ≡ with_cast before cast
-  pub waiting : left ≡ length cast.waiting
+pub record HasBegun (before after : List Broadcast) (broadcast : Broadcast)
+    (left : ℕ) : Type 0 where
+  pub broadcasts : after ≡ with_broadcast before broadcast
+  pub waiting : left ≡ length broadcast.waiting

@@ -46,7 +46,7 @@ pub record AreFilled (store : List (Option Credential)) (t : Table) : Type 0 whe
 -- flags of the processes and the declared files as they stand, which refer to none.
 pub record Parts : Type 0 where
   pub tasks : List Task
-  pub casts : List Broadcast
+  pub broadcasts : List Broadcast
   pub files : List OpenFile
   pub holds : List Hold
   pub prepared : List Prepared
@@ -55,9 +55,9 @@ pub record Parts : Type 0 where
 
 abbrev pub as_parts : List Task → List Broadcast → List OpenFile → List Hold → List Prepared
     → List ProcessFlag → List File → Parts
-as_parts tasks casts files holds prepared dumpable infos = record {
+as_parts tasks broadcasts files holds prepared dumpable infos = record {
   tasks = tasks;
-  casts = casts;
+  broadcasts = broadcasts;
   files = files;
   holds = holds;
   prepared = prepared;
@@ -86,7 +86,7 @@ AreInPlace s places =
 abbrev pub state_of : Parts → List (Option Credential) → Table → State
 state_of parts store table = record {
   tasks = parts.tasks;
-  casts = parts.casts;
+  broadcasts = parts.broadcasts;
   files = parts.files;
   holds = parts.holds;
   prepared = parts.prepared;

@@ -4,7 +4,7 @@ ghost use Rattle.std.specs.Option.{IsSome};
 ghost use Rattle.cred_ids.specs.Limits.{TASKS};
 ghost use Rattle.cred_model.specs.Casts.{joined, WaitsNowhere};
 ghost use Rattle.cred_procs.specs.Tasks.{spawned, task_in};
-ghost use Rattle.cred_tables.specs.Begin.{HasBegun, MayWait, cast_begun};
+ghost use Rattle.cred_tables.specs.Begin.{HasBegun, MayWait, broadcast_begun};
 
 use cred_cast::Casts;
 use cred_ids::NoMemory;
@@ -20,20 +20,21 @@ use cred_record::IdCall;
 /// were.
 pub fn begin_in(
     tasks: &Procs,
-    casts: &mut Casts,
+    broadcasts: &mut Casts,
     line: u32,
     task: u32,
     call: &IdCall,
 ) -> Result<u32, NoMemory>
-    requires { MayWait tasks.now casts.old line task }
+    requires { MayWait tasks.now broadcasts.old line task }
     ensures ok { IfOk result (λ left. IfSome (task_in tasks.now task) (λ owner.
-        HasBegun casts.old casts.new (cast_begun line task call.now owner tasks.now) left)) }
-    ensures err { OnErr result (casts.new ≡ casts.old) }
+        HasBegun broadcasts.old broadcasts.new
+        (broadcast_begun line task call.now owner tasks.now) left)) }
+    ensures err { OnErr result (broadcasts.new ≡ broadcasts.old) }
 {
     // It is there: the task is alive.
     let process = tasks.process_of(task).unwrap();
     let others = tasks.others(process, task)?;
-    casts.begin(line, process, task, call, others.items())?;
+    broadcasts.begin(line, process, task, call, others.items())?;
     Ok(others.items().len() as u32)
 }
 
@@ -43,18 +44,23 @@ pub fn begin_in(
 ///
 /// `NoMemory` if an allocation of room for the thread or for its place among those that wait fails:
 /// the tasks and the broadcasts are as they were.
-pub fn spawn_in(tasks: &mut Procs, casts: &mut Casts, task: u32, child: u32) -> Result<(), NoMemory>
+pub fn spawn_in(
+    tasks: &mut Procs,
+    broadcasts: &mut Casts,
+    task: u32,
+    child: u32,
+) -> Result<(), NoMemory>
     requires alive { IsSome (task_in tasks.old task) }
     requires new { task_in tasks.old child ≡ None }
     requires room { length tasks.old < TASKS }
-    requires nowhere { WaitsNowhere casts.old child }
+    requires nowhere { WaitsNowhere broadcasts.old child }
     ensures tasks { OnOk result (tasks.new ≡ spawned tasks.old task child) }
-    ensures casts { OnOk result (casts.new ≡ joined task child casts.old) }
+    ensures broadcasts { OnOk result (broadcasts.new ≡ joined task child broadcasts.old) }
     ensures no_tasks { OnErr result (tasks.new ≡ tasks.old) }
-    ensures no_casts { OnErr result (casts.new ≡ casts.old) }
+    ensures no_broadcasts { OnErr result (broadcasts.new ≡ broadcasts.old) }
 {
     tasks.spawn(task, child)?;
-    if let Err(err) = casts.join(task, child) {
+    if let Err(err) = broadcasts.join(task, child) {
         tasks.remove(child);
         return Err(err);
     }

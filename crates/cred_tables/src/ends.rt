@@ -3,7 +3,7 @@ ghost use Rattle.std.specs.Prelude.{◌≡◌, IfOk, IfSome, OnErr};
 ghost use Rattle.std.specs.Option.{IsSome};
 ghost use Rattle.cred_model.specs.Step as model;
 ghost use Rattle.cred_procs.specs.Tasks.{EndsTasks, task_in};
-ghost use Rattle.cred_model.specs.Casts.{casts_left};
+ghost use Rattle.cred_model.specs.Casts.{broadcasts_left};
 
 use cred_cast::Casts;
 use cred_event::Change;
@@ -38,10 +38,10 @@ pub fn end_with(
 }
 
 /// The process's broadcast is dropped where one of its threads commits an execve (execve(2)).
-pub fn drop_cast(casts: &mut Casts, change: Change, process: u32)
-    ensures { casts.new ≡ casts_left change process casts.old }
+pub fn drop_broadcast(broadcasts: &mut Casts, change: Change, process: u32)
+    ensures { broadcasts.new ≡ broadcasts_left change process broadcasts.old }
 {
     if let Change::Exec { .. } = change {
-        casts.dropped(process);
+        broadcasts.dropped(process);
     }
 }

@@ -14,7 +14,7 @@ mod seal;
 mod table;
 
 pub use casts::{begin_in, spawn_in};
-pub use ends::{drop_cast, end_with};
+pub use ends::{drop_broadcast, end_with};
 pub use flags::{exit_in, fork_in, renew_in, start_in};
 pub use holds::Holds;
 pub use prepared::{Changed, GivenUp, Preparation, Preparing, Ready};

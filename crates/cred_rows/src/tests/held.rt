@@ -207,7 +207,7 @@ fn event_text(alloc: Global, event: &Event) -> Result<String, NoMemory> {
         Event::Abort { label } => format!(in alloc; "Abort {label}"),
         Event::Override { task, label } => format!(in alloc; "Override {task} {label}"),
         Event::Revert { task } => format!(in alloc; "Revert {task}"),
-        Event::Act { cast } => format!(in alloc; "Act {cast}"),
+        Event::Act { broadcast } => format!(in alloc; "Act {broadcast}"),
         Event::CloseFile { fd } => format!(in alloc; "CloseFile {fd}"),
         Event::Spawn { task, child } => format!(in alloc; "Spawn {task} {child}"),
         Event::Fork {

@@ -9,7 +9,7 @@ ghost use Rattle.cred_event.specs.declared.answer.Answer.TheVariants.{NoBroadcas
 ghost use Rattle.cred_record.specs.declared.id_call.IdCall.{IdCall as Call};
 ghost use Rattle.cred_record.specs.Credential.{AreValidSets, Credential};
 ghost use Rattle.cred_rules.specs.SetId.{set_id};
-ghost use Rattle.cred_model.specs.State.{Broadcast, begun_by, cast_in, numbered, task_of};
+ghost use Rattle.cred_model.specs.State.{Broadcast, begun_by, broadcast_in, numbered, task_of};
 ghost use Rattle.cred_model.specs.Casts.{not_busy};
 ghost use Rattle.cred_model.specs.Dumpable.{differs};
 ghost use Rattle.cred_model.specs.Like.{Gives, GivesLike};
@@ -34,7 +34,7 @@ use cred_tables::{Numbered, begin_in, drop_all, renew_in, seal_next, sweep_at};
 /// place among the tasks, and its current credential.
 #[derive(Clone, Copy)]
 struct Next {
-    cast: usize,
+    broadcast: usize,
     task: u32,
     place: usize,
     now: Numbered,
@@ -133,7 +133,7 @@ impl State {
             return Ok(Answer::TableFull);
         };
         // The others wait before the credential is sealed, since that may take memory.
-        let left = begin_in(&self.tasks, &mut self.casts, line, task, call)?;
+        let left = begin_in(&self.tasks, &mut self.broadcasts, line, task, call)?;
         renew_in(&self.tasks, &mut self.dump, task, other);
         let number = seal_next(&mut self.slots, slot);
         self.master.set_like(cells, now.slot, slot, parts, groups);
@@ -169,7 +169,7 @@ impl State {
         };
         let mut parts = self.read_parts(cells, next.now);
         let own = parts;
-        match self.follow(next.cast, &mut parts) {
+        match self.follow(next.broadcast, &mut parts) {
             Ok(groups) => {
                 let other = differs_by(&own.uid, &own.gid, &parts.uid, &parts.gid);
                 self.act_with(cells, number, next, &parts, &groups, other)
@@ -190,16 +190,16 @@ impl State {
     ///
     /// What refuses the call. The parts then stay.
     #[inline(always)]
-    fn follow(&self, cast: usize, parts: &mut Parts) -> Result<Option<Groups>, Refusal>
-        requires { cast < length self.now.state.casts }
-        ensures made { IfSome (slice_get self.now.state.casts cast) (λ b. (c : Credential)
+    fn follow(&self, broadcast: usize, parts: &mut Parts) -> Result<Option<Groups>, Refusal>
+        requires { broadcast < length self.now.state.broadcasts }
+        ensures made { IfSome (slice_get self.now.state.broadcasts broadcast) (λ b. (c : Credential)
             → parts_of c ≡ parts.old
             → PartsBecome c parts.old parts.new result (set_id c b.call)) }
         ensures valid { (c : Credential) → parts_of c ≡ parts.old →
             AreValidSets c.perm c.inh c.eff c.amb →
             AreValidSets parts.new.perm c.inh parts.new.eff parts.new.amb }
     {
-        apply_parts(self.alloc, parts, self.casts.call_at(cast))
+        apply_parts(self.alloc, parts, self.broadcasts.call_at(broadcast))
     }
 
     /// The step of the thread that is next, where the call gives its current credential these
@@ -217,11 +217,11 @@ impl State {
         requires own { self.old.words.id ≡ cells.now }
         requires out { AreOut self.old.state self.old.words.out }
         requires sound { IsSound self.old.state }
-        requires next { ActsNext self.old.state number next.cast next.task next.place
+        requires next { ActsNext self.old.state number next.broadcast next.task next.place
             (seen_in self.old.state.creds next.now) }
         requires made { let c = cred_under self.old.state.creds next.now.number in
-            IfSome (slice_get self.old.state.casts next.cast) (λ cast.
-            set_id c cast.call ≡ Ok (changed c parts.now groups.now)) }
+            IfSome (slice_get self.old.state.broadcasts next.broadcast) (λ broadcast.
+            set_id c broadcast.call ≡ Ok (changed c parts.now groups.now)) }
         requires valid { let c = cred_under self.old.state.creds next.now.number in
             AreValidSets parts.now.perm c.inh parts.now.eff parts.now.amb }
         requires other { let c = cred_under self.old.state.creds next.now.number in
@@ -241,7 +241,7 @@ impl State {
             .set_like(cells, next.now.slot, slot, parts, groups);
         self.tasks.set_current_at(next.place, new);
         self.slots.drop_later(next.now.number);
-        let left = self.casts.act_at(next.cast, next.task);
+        let left = self.broadcasts.act_at(next.broadcast, next.task);
         Ok(Answer::Acted {
             task: next.task,
             cred: new,
@@ -257,20 +257,20 @@ impl State {
         ensures { MatchOption result
             (GivesLike self.now.state (by_act self.now.state number) (NoBroadcast number)
             self.now.state)
-            (λ next. ActsNext self.now.state number next.cast next.task next.place
+            (λ next. ActsNext self.now.state number next.broadcast next.task next.place
             (seen_in self.now.state.creds next.now)) }
     {
-        let Some(cast) = self.casts.place(number) else {
+        let Some(broadcast) = self.broadcasts.place(number) else {
             return None;
         };
-        let task = self.casts.least_at(cast);
+        let task = self.broadcasts.least_at(broadcast);
         // It is there: who waits in a broadcast is alive.
         let place = self.tasks.place(task).unwrap();
         let Some(now) = self.sealed_at(self.tasks.current_at(place)) else {
             return None;
         };
         Some(Next {
-            cast,
+            broadcast,
             task,
             place,
             now,
@@ -285,8 +285,8 @@ impl State {
         requires { IsSome (task_of self.old.state task) }
         ensures answer { IfOk result (λ answer. answer ≡ Aborted task cause) }
         ensures state { OnOk result (IfSome (task_of self.old.state task) (λ owner.
-            (cast : Broadcast) → cast.process ≡ owner.process
-            → self.new.state ≡ aborted cast (at_abort cause self.old.state))) }
+            (broadcast : Broadcast) → broadcast.process ≡ owner.process
+            → self.new.state ≡ aborted broadcast (at_abort cause self.old.state))) }
         ensures err { OnErr result (self.new ≡ self.old) }
         ensures words { self.new.words ≡ self.old.words }
     {
@@ -295,7 +295,7 @@ impl State {
         let ended = self.tasks.end_process(process)?;
         sweep_at(&mut self.slots, cause);
         drop_all(&mut self.slots, ended.numbers.items());
-        self.casts.dropped(process);
+        self.broadcasts.dropped(process);
         self.dump.gone(process);
         Ok(Answer::Aborted { task, cause })
     }
@@ -313,10 +313,10 @@ impl State {
         };
         // It is there: the task is alive.
         let process = self.tasks.process_of(task).unwrap();
-        if let Some(cast) = self.casts.open_in(process) {
-            return Err(Answer::Busy(cast));
+        if let Some(broadcast) = self.broadcasts.open_in(process) {
+            return Err(Answer::Busy(broadcast));
         }
-        if self.casts.caller_of(line).is_some() {
+        if self.broadcasts.caller_of(line).is_some() {
             return Err(Answer::Exists {
                 what: Named::Broadcast,
                 number: line,
@@ -335,16 +335,16 @@ impl State {
             (not_busy (begun_by self.now.state task) ≡ Ok tt)
             (λ number. not_busy (begun_by self.now.state task) ≡ Err (Busy number)) }
     {
-        self.casts.begun_by(task)
+        self.broadcasts.begun_by(task)
     }
 
     /// The broadcast that is open in a process. Until it is completed no task of that process
     /// begins another, and no other task is put in it. `None` where none is open there.
     pub fn open_in(&self, process: u32) -> Option<u32>
         ensures { MatchOption result
-            (not_busy (cast_in self.now.state process) ≡ Ok tt)
-            (λ number. not_busy (cast_in self.now.state process) ≡ Err (Busy number)) }
+            (not_busy (broadcast_in self.now.state process) ≡ Ok tt)
+            (λ number. not_busy (broadcast_in self.now.state process) ≡ Err (Busy number)) }
     {
-        self.casts.open_in(process)
+        self.broadcasts.open_in(process)
     }
 }

@@ -21,7 +21,7 @@ use cred_event::{Answer, Change, Counted, Named};
 use cred_hold::Cells;
 use cred_ids::{NoMemory, limits};
 use cred_tables::{
-    GivenUp, Numbered, Preparation, Ready, drop_all, drop_cast, end_with, seal_kept,
+    GivenUp, Numbered, Preparation, Ready, drop_all, drop_broadcast, end_with, seal_kept,
 };
 
 impl State {
@@ -85,8 +85,8 @@ impl State {
         if !self.tasks.alive(task) {
             return Err(Answer::NoTask(task));
         }
-        if let Some(cast) = self.begun(task) {
-            return Err(Answer::Busy(cast));
+        if let Some(broadcast) = self.begun(task) {
+            return Err(Answer::Busy(broadcast));
         }
         let Some(base) = self.holds.get(hold) else {
             return Err(Answer::NoHold(hold));
@@ -136,8 +136,8 @@ impl State {
         let Some(now) = self.tasks.current(task) else {
             return Ok(Answer::NoTask(task));
         };
-        if let Some(cast) = self.begun(task) {
-            return Ok(Answer::Busy(cast));
+        if let Some(broadcast) = self.begun(task) {
+            return Ok(Answer::Busy(broadcast));
         }
         if let Some(depth) = self.overridden(task) {
             return Ok(Answer::Overridden(depth));
@@ -188,7 +188,7 @@ impl State {
         drop_all(&mut self.slots, ended.numbers.items());
         self.slots.drop_later(now);
         let (kept, last) = self.prepared.finish(label);
-        drop_cast(&mut self.casts, last.change, process);
+        drop_broadcast(&mut self.broadcasts, last.change, process);
         self.dump.commit(last.change, &last.gains, process, other);
         // What was prepared is in the words of its slot already.
         let number = seal_kept(&mut self.slots, kept);

@@ -118,8 +118,8 @@ impl State {
         };
         // It is there: the task is alive.
         let process = self.tasks.process_of(task).unwrap();
-        if let Some(cast) = self.casts.open_in(process) {
-            return Err(Answer::Busy(cast));
+        if let Some(broadcast) = self.broadcasts.open_in(process) {
+            return Err(Answer::Busy(broadcast));
         }
         if let Some(depth) = self.overridden(task) {
             return Err(Answer::Overridden(depth));

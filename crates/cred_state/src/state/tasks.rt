@@ -7,7 +7,7 @@ ghost use Rattle.cred_record.specs.Credential.{first_credential};
 ghost use Rattle.cred_model.specs.Casts.{not_busy};
 ghost use Rattle.cred_model.specs.Dumpable.{flag_in};
 ghost use Rattle.cred_model.specs.Like.{Gives, GivesLike};
-ghost use Rattle.cred_model.specs.State.{cast_in, task_of};
+ghost use Rattle.cred_model.specs.State.{broadcast_in, task_of};
 ghost use Rattle.cred_model.specs.Step.{by_exit, by_fork, by_init, by_spawn};
 ghost use Rattle.cred_procs.specs.Tasks.{has_process};
 ghost use Rattle.cred_sound.specs.Sound.{IsSound};
@@ -50,8 +50,8 @@ impl State {
         ensures err { OnErr result (self.new ≡ self.old) }
         ensures words { self.new.words ≡ self.old.words }
     {
-        if let Some(cast) = self.open_in(process) {
-            return Ok(Answer::Busy(cast));
+        if let Some(broadcast) = self.open_in(process) {
+            return Ok(Answer::Busy(broadcast));
         }
         if self.tasks.alive(number) {
             return Ok(Answer::Exists {
@@ -83,7 +83,7 @@ impl State {
     ) -> Result<Answer, NoMemory>
         requires own { self.old.words.id ≡ cells.now }
         requires out { AreOut self.old.state self.old.words.out }
-        requires idle { not_busy (cast_in self.old.state process) ≡ Ok tt }
+        requires idle { not_busy (broadcast_in self.old.state process) ≡ Ok tt }
         requires new { task_of self.old.state number ≡ None }
         requires room { length self.old.state.tasks < TASKS }
         requires flag { is_some (flag_in self.old.state.dumpable process)
@@ -129,7 +129,7 @@ impl State {
             Err(answer) => return Ok(answer),
         };
         self.slots.reserve()?;
-        spawn_in(&mut self.tasks, &mut self.casts, task, child)?;
+        spawn_in(&mut self.tasks, &mut self.broadcasts, task, child)?;
         self.slots.add(number);
         Ok(Answer::Sealed { cred: number, slot })
     }
@@ -171,8 +171,8 @@ impl State {
         let Some(now) = self.current(task) else {
             return Err(Answer::NoTask(task));
         };
-        if let Some(cast) = self.begun(task) {
-            return Err(Answer::Busy(cast));
+        if let Some(broadcast) = self.begun(task) {
+            return Err(Answer::Busy(broadcast));
         }
         if self.tasks.alive(child) {
             return Err(Answer::Exists {
@@ -224,15 +224,15 @@ impl State {
         if !self.tasks.alive(task) {
             return Ok(Answer::NoTask(task));
         }
-        if let Some(cast) = self.begun(task) {
-            return Ok(Answer::Busy(cast));
+        if let Some(broadcast) = self.begun(task) {
+            return Ok(Answer::Busy(broadcast));
         }
         if let Some(depth) = self.overridden(task) {
             return Ok(Answer::Overridden(depth));
         }
         let numbers = exit_in(&mut self.tasks, &mut self.dump, task)?;
         drop_all(&mut self.slots, numbers.items());
-        self.casts.gone(task);
+        self.broadcasts.gone(task);
         Ok(Answer::Done)
     }
 }

@@ -23,7 +23,7 @@ const SCRIPT: &str = "init t1 p1 0 0 n0\ninit t2 p1 0 0 n0\ninit t3 p2 0 0 n0\ni
 enum Call {
     Init { task: u32, process: u32 },
     Begin { task: u32 },
-    Act { cast: u32 },
+    Act { broadcast: u32 },
 }
 
 /// A line and its event, the text of its entry, and how many references there are to the first
@@ -72,7 +72,7 @@ const ROWS: [Row; 8] = [
     // None of them has left anything.
     (
         6,
-        Call::Act { cast: 5 },
+        Call::Act { broadcast: 5 },
         "6 act 5 -> ok t2 c5 s5 left 0\n",
         [1, 1, 1, 1, 1, 1, 0, 0],
     ),
@@ -110,7 +110,7 @@ fn event_of(call: Call) -> Result<Event, Fail>
             task,
             call: IdCall::SetGid(Arg::of(7)),
         }),
-        Call::Act { cast } => Ok(Event::Act { cast }),
+        Call::Act { broadcast } => Ok(Event::Act { broadcast }),
     }
 }
 

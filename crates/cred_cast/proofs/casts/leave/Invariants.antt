@@ -2,6 +2,6 @@ use Rattle.std.proofs.Common.{◌≡◌, ◌++◌, map, take, drop}
 use Rattle.cred_model.specs.Casts.{without_waiter}
 use Rattle.cred_cast.proofs.casts.leave.Given as goal
 
-abbrev pub invariant-loop-cast : goal.invariant-loop-cast
-invariant-loop-cast l =
-    l.cast-items ≡ map (without_waiter l.task) (take l.cast-index l.initial.cast-items) ++ drop l.cast-index l.initial.cast-items
+abbrev pub invariant-loop-broadcast : goal.invariant-loop-broadcast
+invariant-loop-broadcast l =
+    l.broadcast-items ≡ map (without_waiter l.task) (take l.broadcast-index l.initial.broadcast-items) ++ drop l.broadcast-index l.initial.broadcast-items

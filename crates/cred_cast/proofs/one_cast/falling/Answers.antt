@@ -3,7 +3,7 @@ use Rattle.std.proofs.lemmas.List.{reverse-reverse}
 use Rattle.std.proofs.lemmas.List.Sorted.{IsNonDecreasingBy-from_sort}
 use Rattle.cred_ids.specs.Ordered.{in_order}
 use Rattle.cred_ids.proofs.InOrder.{in_order-is}
-use Rattle.cred_cast.proofs.one_cast.falling.Goals as goal
+use Rattle.cred_cast.proofs.one_broadcast.falling.Goals as goal
 
 pub returns : goal.returns
 returns c =

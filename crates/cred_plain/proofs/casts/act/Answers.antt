@@ -7,11 +7,11 @@ pub returns-then-not-is_open : goal.returns-then-not-is_open
 returns-then-not-is_open c =
     let closed : is_open c.step.new.self ≡ false = search rules in
     c.remove.ensures.items
-    ∙ left_closed c.args.casts.now.items c.args.task c.args.place c.index_mut-cast.result.now c.requires.casts c.requires.least
-    c.index_mut-cast.ensures.value c.step.new.self c.step.ensures closed
+    ∙ left_closed c.args.broadcasts.now.items c.args.task c.args.place c.index_mut-broadcast.result.now c.requires.broadcasts c.requires.least
+    c.index_mut-broadcast.ensures.value c.step.new.self c.step.ensures closed
 
 pub returns-else-not-is_open : goal.returns-else-not-is_open
 returns-else-not-is_open c =
     let waits : is_open c.step.new.self ≡ true = search rules in
-    left_open c.args.casts.now.items c.args.task c.args.place c.index_mut-cast.result.now c.requires.casts c.requires.least
-    c.index_mut-cast.ensures.value c.step.new.self c.step.ensures waits
+    left_open c.args.broadcasts.now.items c.args.task c.args.place c.index_mut-broadcast.result.now c.requires.broadcasts c.requires.least
+    c.index_mut-broadcast.ensures.value c.step.new.self c.step.ensures waits

@@ -14,26 +14,26 @@ written now before n same is =
     ∙ ap (take n) (append-nil now)
     ∙ take_all n now (omega arith)
 
-pub loop-cast-preserved : goal.loop-cast-preserved
-loop-cast-preserved c =
-    rw (c.leave.ensures ∙ ap (without_waiter c.args.task) (sym c.cast-item.is))
-    (map_over_more (without_waiter c.args.task) c.deref_mut-cast-items.result.now c.loop-cast.cast-items c.loop-cast.cast-index c.cast-item.result
-    c.loop-cast-test.true c.loop-cast.invariant c.cast-item.is)
+pub loop-broadcast-preserved : goal.loop-broadcast-preserved
+loop-broadcast-preserved c =
+    rw (c.leave.ensures ∙ ap (without_waiter c.args.task) (sym c.broadcast-item.is))
+    (map_over_more (without_waiter c.args.task) c.deref_mut-broadcast-items.result.now c.loop-broadcast.broadcast-items c.loop-broadcast.broadcast-index c.broadcast-item.result
+    c.loop-broadcast-test.true c.loop-broadcast.invariant c.broadcast-item.is)
 
 pub returns : goal.returns
 returns c =
     let f = without_waiter c.args.task in
-    let before = c.deref_mut-cast-items.result.now in
-    let i = c.loop-cast.cast-index in
-    let each : c.loop-cast.cast-items ≡ map f c.args.casts.now.items
-    = c.loop-cast.invariant
-    ∙ ap (λ bs. map f bs ++ drop i before) (take_all i before c.loop-cast-test.false)
-    ∙ ap (λ bs. map f before ++ bs) (drop_all i before c.loop-cast-test.false)
+    let before = c.deref_mut-broadcast-items.result.now in
+    let i = c.loop-broadcast.broadcast-index in
+    let each : c.loop-broadcast.broadcast-items ≡ map f c.args.broadcasts.now.items
+    = c.loop-broadcast.invariant
+    ∙ ap (λ bs. map f bs ++ drop i before) (take_all i before c.loop-broadcast-test.false)
+    ∙ ap (λ bs. map f before ++ bs) (drop_all i before c.loop-broadcast-test.false)
     ∙ append-nil (map f before)
-    ∙ ap (map f) c.deref_mut-cast-items.ensures.value in
+    ∙ ap (map f) c.deref_mut-broadcast-items.ensures.value in
     filter_same _ is_open _ (λ x b f' k. search (rules, tests)) _ _ c.retain.ensures.filtered
     ∙ ap (filter is_open)
-    (written c.loop-cast.cast-items c.args.casts.now.items c.args.casts.now.len
-    (c.loop-cast.auto.cast-items ∙ ap length c.deref_mut-cast-items.ensures.value)
-    (sym c.deref_mut-cast-items.ensures.len ∙ sym c.loop-cast.auto.cast-items)
+    (written c.loop-broadcast.broadcast-items c.args.broadcasts.now.items c.args.broadcasts.now.len
+    (c.loop-broadcast.auto.broadcast-items ∙ ap length c.deref_mut-broadcast-items.ensures.value)
+    (sym c.deref_mut-broadcast-items.ensures.len ∙ sym c.loop-broadcast.auto.broadcast-items)
     ∙ each)

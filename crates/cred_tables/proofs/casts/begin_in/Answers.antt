@@ -6,10 +6,10 @@ use Rattle.cred_model.specs.Ends.{is_beside}
 use Rattle.cred_model.proofs.Places.{if_some}
 use Rattle.cred_model.proofs.Rising.{length-in_order}
 use Rattle.cred_model.specs.Casts.{WaitsNowhere}
-use Rattle.cred_cast.specs.Casts.{cast_within}
+use Rattle.cred_cast.specs.Casts.{broadcast_within}
 use Rattle.cred_procs.specs.Tasks.{task_in, those}
-use Rattle.cred_tables.specs.Begin.{HasBegun, cast_begun}
-use Rattle.cred_tables.proofs.Begun.{begun_casts, few_those}
+use Rattle.cred_tables.specs.Begin.{HasBegun, broadcast_begun}
+use Rattle.cred_tables.proofs.Begun.{begun_broadcasts, few_those}
 use Rattle.cred_tables.proofs.Owners.{has_process, owner_process}
 use Rattle.cred_tables.proofs.casts.begin_in.Goals as goal
 
@@ -26,7 +26,7 @@ pub begin-requires-clause-one : goal.begin-requires-clause-one
 begin-requires-clause-one c =
     let process =
     owner_process c.args.tasks.now c.args.task c.unwrap-process.result c.requires.owner c.requires.lives c.unwrap-process.ensures c.process_of.ensures in
-    ap (cast_within c.args.casts.now) process ∙ c.requires.idle
+    ap (broadcast_within c.args.broadcasts.now) process ∙ c.requires.idle
 
 pub begin-requires-clause-once : goal.begin-requires-clause-once
 begin-requires-clause-once c =
@@ -36,7 +36,7 @@ begin-requires-clause-once c =
 pub begin-requires-clause-only_here : goal.begin-requires-clause-only_here
 begin-requires-clause-only_here c =
     let these = c.items.ensures ∙ if_some _ (task_in c.args.tasks.now c.args.task) c.requires.owner c.requires.lives c.in_ok-others.ensures.others in
-    subst (All (WaitsNowhere c.args.casts.now)) (sym these) c.requires.nowhere
+    subst (All (WaitsNowhere c.args.broadcasts.now)) (sym these) c.requires.nowhere
 
 pub returns-clause-ok : goal.returns-clause-ok
 returns-clause-ok c =
@@ -45,11 +45,11 @@ returns-clause-ok c =
     let process = owner_process tasks c.args.task c.unwrap-process.result owner c.requires.lives c.unwrap-process.ensures c.process_of.ensures in
     let these = if_some _ (task_in tasks c.args.task) owner c.requires.lives c.in_ok-others.ensures.others in
     let Begun : Task → Type 0 =
-    λ o. HasBegun c.args.casts.now c.begin.new.self (cast_begun c.args.line c.args.task c.args.call.now o tasks) (length c.items-2.result.now) in
+    λ o. HasBegun c.args.broadcasts.now c.begin.new.self (broadcast_begun c.args.line c.args.task c.args.call.now o tasks) (length c.items-2.result.now) in
     subst (λ (found : Option Task). IfSome found Begun) (sym c.requires.lives)
     (record {
-      casts =
-          begun_casts c.args.casts.now c.begin.new.self tasks c.args.line c.args.task owner c.args.call.now process (c.items.ensures ∙ these)
+      broadcasts =
+          begun_broadcasts c.args.broadcasts.now c.begin.new.self tasks c.args.line c.args.task owner c.args.call.now process (c.items.ensures ∙ these)
           c.in_ok-begin.ensures.ok;
       waiting = ap length (c.items-2.ensures ∙ these) ∙ sym (length-in_order (those (is_beside owner) tasks));
     })

@@ -134,7 +134,7 @@ impl Lists {
     /// many.
     fn executes(&mut self, task: u32) -> Result<u64, NoMemory> {
         let others = self.others(task)?;
-        self.drop_cast(task);
+        self.drop_broadcast(task);
         for other in &others {
             self.end(*other);
         }

@@ -70,7 +70,7 @@ pub(crate) struct Prepared {
 /// A thread that waits for its step in a broadcast, which is open as long as a thread waits in it.
 #[derive(Clone, Copy)]
 pub(crate) struct Waiting {
-    pub(crate) cast: u32,
+    pub(crate) broadcast: u32,
     pub(crate) process: u32,
     pub(crate) caller: u32,
     pub(crate) task: u32,
@@ -190,7 +190,7 @@ impl Lists {
     }
 
     /// The broadcast of the task's process is dropped.
-    pub(crate) fn drop_cast(&mut self, task: u32) {
+    pub(crate) fn drop_broadcast(&mut self, task: u32) {
         if let Some(process) = self.process_of(task) {
             self.waiting.retain(|own| own.process != process);
         }

@@ -92,7 +92,10 @@ impl Lists {
                 .no_task(*task)
                 .or(self.open_beside(*task))
                 .or(self.overridden(*task)),
-            Event::Act { cast } => unless(self.is_open(*cast), Due::NoBroadcast(*cast)),
+            Event::Act { broadcast } => unless(
+                self.is_open(*broadcast),
+                Due::NoBroadcast(*broadcast),
+            ),
             Event::Spawn { task, child } => self
                 .no_task(*task)
                 .or(self.busy(*task))
@@ -144,20 +147,20 @@ impl Lists {
     }
 
     /// The broadcast of this number is open.
-    fn is_open(&self, cast: u32) -> bool {
-        self.waiting.iter().any(|own| own.cast == cast)
+    fn is_open(&self, broadcast: u32) -> bool {
+        self.waiting.iter().any(|own| own.broadcast == broadcast)
     }
 
     /// The task is the caller of an open broadcast.
     fn busy(&self, task: u32) -> Option<Due> {
         let own = self.waiting.iter().find(|own| own.caller == task)?;
-        Some(Due::Busy(own.cast))
+        Some(Due::Busy(own.broadcast))
     }
 
     /// A broadcast is open in the process.
     fn open_in(&self, process: u32) -> Option<Due> {
         let own = self.waiting.iter().find(|own| own.process == process)?;
-        Some(Due::Busy(own.cast))
+        Some(Due::Busy(own.broadcast))
     }
 
     /// A broadcast is open in the task's process.

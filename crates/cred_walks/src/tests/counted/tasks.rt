@@ -16,7 +16,7 @@ impl Lists {
             Event::Init { task, process, .. } => self.inits(*task, *process, answer),
             Event::Begin { task, .. } => Ok(is_rule(answer) || self.begins(line, *task, answer)?),
             Event::Raw { task, .. } => Ok(is_rule(answer) || self.acts_alone(*task, answer)?),
-            Event::Act { cast } => self.acts(*cast, answer),
+            Event::Act { broadcast } => self.acts(*broadcast, answer),
             _ => self.on_tasks(event, answer),
         }
     }
@@ -47,7 +47,7 @@ impl Lists {
     }
 
     /// All other threads of the caller's process wait from now on.
-    fn begins(&mut self, cast: u32, caller: u32, answer: &Answer) -> Result<bool, NoMemory> {
+    fn begins(&mut self, broadcast: u32, caller: u32, answer: &Answer) -> Result<bool, NoMemory> {
         let Answer::Began { cred, slot, left } = answer else {
             return self.is_full(answer);
         };
@@ -57,7 +57,7 @@ impl Lists {
         let process = self.process_of(caller).unwrap_or(0);
         for task in &others {
             self.waiting.push(Waiting {
-                cast,
+                broadcast,
                 process,
                 caller,
                 task: *task,
@@ -77,13 +77,13 @@ impl Lists {
     }
 
     /// The least task that waits in a broadcast.
-    fn least(&self, cast: u32) -> Option<u32> {
-        let waiting = self.waiting.iter().filter(|own| own.cast == cast);
+    fn least(&self, broadcast: u32) -> Option<u32> {
+        let waiting = self.waiting.iter().filter(|own| own.broadcast == broadcast);
         waiting.map(|own| own.task).min()
     }
 
     /// The least thread that waits has a new credential and waits no longer, or can't follow.
-    fn acts(&mut self, cast: u32, answer: &Answer) -> Result<bool, NoMemory> {
+    fn acts(&mut self, broadcast: u32, answer: &Answer) -> Result<bool, NoMemory> {
         match answer {
             Answer::Acted {
                 task,
@@ -91,15 +91,19 @@ impl Lists {
                 slot,
                 left,
             } => {
-                let is_least = self.least(cast) == Some(*task);
+                let is_least = self.least(broadcast) == Some(*task);
                 let is_new = self.is_new(*cred, *slot)?;
                 self.replace(*task, *cred)?;
                 self.waiting.retain(|own| own.task != *task);
-                let others = self.waiting.iter().filter(|own| own.cast == cast).count();
+                let others = self
+                    .waiting
+                    .iter()
+                    .filter(|own| own.broadcast == broadcast)
+                    .count();
                 Ok(is_least && is_new && others as u64 == u64::from(*left))
             }
             Answer::Aborted { task, cause } => {
-                let is_least = self.least(cast) == Some(*task);
+                let is_least = self.least(broadcast) == Some(*task);
                 Ok(self.aborts(*task, *cause)? && is_least)
             }
             _ => Ok(false),
@@ -113,7 +117,7 @@ impl Lists {
             AbortCause::Full => self.claimed()?.is_none(),
         };
         let others = self.others(task)?;
-        self.drop_cast(task);
+        self.drop_broadcast(task);
         for other in &others {
             self.end(*other);
         }

@@ -107,7 +107,7 @@ pub(crate) fn event_of(script: &Script, call: Call) -> Result<Event, Fail>
             task,
             call: IdCall::SetGid(Arg::of(7)),
         },
-        Call::Act => Event::Act { cast: CAST },
+        Call::Act => Event::Act { broadcast: CAST },
         _ => on_label(file, call),
     })
 }

@@ -1,15 +1,15 @@
 use Rattle.std.proofs.Common.{◌==◌, not, sym, subst, rules, tests}
 use Rattle.std.proofs.lemmas.Fn.{filter_same}
 use Rattle.cred_model.specs.State.{Broadcast}
-use Rattle.cred_cast.specs.Casts.{AreCasts}
+use Rattle.cred_cast.specs.Casts.{AreBroadcasts}
 use Rattle.cred_cast.proofs.Kept.{are_dropped}
 use Rattle.cred_cast.proofs.casts.Casts.dropped.Goals as goal
 
 pub invariant_of-self : goal.invariant_of-self
 invariant_of-self c =
-    subst AreCasts
+    subst AreBroadcasts
     (sym (filter_same _ (λ (b : Broadcast). not (b.process == c.args.process)) _ (λ x b f' k. search (rules, tests)) _ _ c.retain.ensures.filtered))
-    (are_dropped c.args.process c.self.inside.casts.items c.self.invariant)
+    (are_dropped c.args.process c.self.inside.broadcasts.items c.self.invariant)
 
 pub returns : goal.returns
 returns c =

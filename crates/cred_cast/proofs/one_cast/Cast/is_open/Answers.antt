@@ -1,6 +1,6 @@
 use Rattle.std.proofs.Common.{◌==◌, ◌∙◌, ℕ, not, sym, ap}
 use Rattle.std.proofs.lemmas.List.{length-reverse}
-use Rattle.cred_cast.proofs.one_cast.Cast.is_open.Goals as goal
+use Rattle.cred_cast.proofs.one_broadcast.Cast.is_open.Goals as goal
 
 pub returns : goal.returns
 returns c =

@@ -5,7 +5,7 @@ use Rattle.std.proofs.lemmas.List.Sorted.{IsNonDecreasingBy-from_sort}
 use Rattle.cred_ids.proofs.InOrder.{in_order-is}
 use Rattle.cred_model.specs.State.{Broadcast}
 use Rattle.cred_cast.proofs.Falling.{joined_either}
-use Rattle.cred_cast.proofs.one_cast.Cast.join.Goals as goal
+use Rattle.cred_cast.proofs.one_broadcast.Cast.join.Goals as goal
 
 pub returns-clause-ok : goal.returns-clause-ok
 returns-clause-ok c =

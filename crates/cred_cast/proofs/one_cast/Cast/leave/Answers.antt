@@ -2,7 +2,7 @@ use Rattle.std.proofs.Common.{◌∙◌, ℕ, ◌==◌, not, List, reverse, sym,
 use Rattle.std.proofs.lemmas.Fn.{filter_same}
 use Rattle.cred_model.specs.State.{Broadcast}
 use Rattle.cred_cast.proofs.Falling.{filter-reverse}
-use Rattle.cred_cast.proofs.one_cast.Cast.leave.Goals as goal
+use Rattle.cred_cast.proofs.one_broadcast.Cast.leave.Goals as goal
 
 pub returns : goal.returns
 returns c =

@@ -3,7 +3,7 @@ use Rattle.std.specs.Option.{option_copied}
 use Rattle.std.proofs.lemmas.List.{length-reverse}
 use Rattle.cred_cast.proofs.Falling.{greatest_first}
 use Rattle.cred_model.proofs.Waiting.{greatest_bounds}
-use Rattle.cred_cast.proofs.one_cast.Cast.others.Goals as goal
+use Rattle.cred_cast.proofs.one_broadcast.Cast.others.Goals as goal
 
 pub prove-unreachable-requires : goal.prove-unreachable-requires
 prove-unreachable-requires c =

@@ -1,7 +1,7 @@
 use Rattle.std.proofs.Common.{◌∙◌, ℕ, List, sym, ap}
 use Rattle.cred_model.specs.State.{Broadcast}
 use Rattle.cred_cast.proofs.Falling.{least_taken}
-use Rattle.cred_cast.proofs.one_cast.Cast.step.Goals as goal
+use Rattle.cred_cast.proofs.one_broadcast.Cast.step.Goals as goal
 
 pub returns-then-eq : goal.returns-then-eq
 returns-then-eq c =

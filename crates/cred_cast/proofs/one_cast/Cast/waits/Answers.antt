@@ -1,6 +1,6 @@
 use Rattle.std.proofs.Common.{◌==◌, ◌∙◌, ℕ, sym}
 use Rattle.cred_cast.proofs.Falling.{any-reverse}
-use Rattle.cred_cast.proofs.one_cast.Cast.waits.Goals as goal
+use Rattle.cred_cast.proofs.one_broadcast.Cast.waits.Goals as goal
 
 pub returns : goal.returns
 returns c =

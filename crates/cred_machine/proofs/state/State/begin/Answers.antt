@@ -13,7 +13,7 @@ returns-in-Some-open_in-clause-ok c =
     let o = seen_task c.owner.inside in
     rw (← c.self.view_is)
     (begin_busy s c.args.line c.args.task c.args.call.now o (seen_numbered c.in-Some-get.old)
-    (rw (← c.owner.view_is) at (sym c.in-Some.ensures)) (sym c.in-Some-get.ensures) (Busy c.in-Some-open_in.cast)
+    (rw (← c.owner.view_is) at (sym c.in-Some.ensures)) (sym c.in-Some-get.ensures) (Busy c.in-Some-open_in.broadcast)
     (idle_in s _ o.process _ c.deref.ensures.value c.in-Some-open_in.ensures))
 
 pub returns-in-Err-Perm-clause-ok : goal.returns-in-Err-Perm-clause-ok
@@ -21,8 +21,8 @@ returns-in-Err-Perm-clause-ok c =
     let s = seen_state c.self.inside in
     let o = seen_task c.owner.inside in
     let old = seen_numbered c.in-Some-get.old in
-    let can = can_begin (λ x. x.now) s c.args.line c.args.task o _ old _ _ c.cast_of.result c.is_some.result c.in-Some.ensures c.owner.view_is
-    c.in-Some-get.ensures c.deref.ensures.value c.in_default-open_in.ensures c.deref-2.ensures.value c.cast_of.ensures c.is_some.ensures
+    let can = can_begin (λ x. x.now) s c.args.line c.args.task o _ old _ _ c.broadcast_of.result c.is_some.result c.in-Some.ensures c.owner.view_is
+    c.in-Some-get.ensures c.deref.ensures.value c.in_default-open_in.ensures c.deref-2.ensures.value c.broadcast_of.ensures c.is_some.ensures
     c.if-is_some.false c.in_default-overridden.ensures in
     let rule = rw c.in-Err-Perm.field-0-is at c.in-Err-Perm.ensures in
     rw (← c.self.view_is) (begin_eperm s c.args.line c.args.task c.args.call.now o old can rule)
@@ -32,8 +32,8 @@ returns-in-Err-Invalid-clause-ok c =
     let s = seen_state c.self.inside in
     let o = seen_task c.owner.inside in
     let old = seen_numbered c.in-Some-get.old in
-    let can = can_begin (λ x. x.now) s c.args.line c.args.task o _ old _ _ c.cast_of.result c.is_some.result c.in-Some.ensures c.owner.view_is
-    c.in-Some-get.ensures c.deref.ensures.value c.in_default-open_in.ensures c.deref-2.ensures.value c.cast_of.ensures c.is_some.ensures
+    let can = can_begin (λ x. x.now) s c.args.line c.args.task o _ old _ _ c.broadcast_of.result c.is_some.result c.in-Some.ensures c.owner.view_is
+    c.in-Some-get.ensures c.deref.ensures.value c.in_default-open_in.ensures c.deref-2.ensures.value c.broadcast_of.ensures c.is_some.ensures
     c.if-is_some.false c.in_default-overridden.ensures in
     let rule = rw c.in-Err-Invalid.field-0-is at c.in-Err-Invalid.ensures in
     rw (← c.self.view_is) (begin_einval s c.args.line c.args.task c.args.call.now o old can rule)
@@ -43,8 +43,8 @@ returns-clause-ok c =
     let s = seen_state c.self.inside in
     let o = seen_task c.owner.inside in
     let old = seen_numbered c.in-Some-get.old in
-    let can = can_begin (λ x. x.now) s c.args.line c.args.task o _ old _ _ c.cast_of.result c.is_some.result c.in-Some.ensures c.owner.view_is
-    c.in-Some-get.ensures c.deref.ensures.value c.in_default-open_in.ensures c.deref-2.ensures.value c.cast_of.ensures c.is_some.ensures
+    let can = can_begin (λ x. x.now) s c.args.line c.args.task o _ old _ _ c.broadcast_of.result c.is_some.result c.in-Some.ensures c.owner.view_is
+    c.in-Some-get.ensures c.deref.ensures.value c.in_default-open_in.ensures c.deref-2.ensures.value c.broadcast_of.ensures c.is_some.ensures
     c.if-is_some.false c.in_default-overridden.ensures in
     rw (← c.self.view_is)
     (same_answer _ _ c.open.result c.open.new.self

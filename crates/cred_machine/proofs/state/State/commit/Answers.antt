@@ -13,7 +13,7 @@ returns-in-Some-begun_by-clause-ok c =
     let found = finds s c.args.label c.in-Some.place _ own _ last owner c.deref.ensures.value c.in-Some.ensures c.own.view_is c.index-own.ensures
     c.in-Some-for_task.ensures c.in-Some-get.ensures in
     rw (← c.self.view_is)
-    (commit_busy s c.args.label c.in-Some.place own last owner found (Busy c.in-Some-begun_by.cast)
+    (commit_busy s c.args.label c.in-Some.place own last owner found (Busy c.in-Some-begun_by.broadcast)
     (busy_at s _ own.task _ c.deref-2.ensures.value c.in-Some-begun_by.ensures))
 
 pub returns-in-Some-overridden-clause-ok : goal.returns-in-Some-overridden-clause-ok

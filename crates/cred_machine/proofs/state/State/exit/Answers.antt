@@ -9,7 +9,7 @@ pub returns-in-Some-begun_by-clause-ok : goal.returns-in-Some-begun_by-clause-ok
 returns-in-Some-begun_by-clause-ok c =
     let s = seen_state c.self.inside in
     rw (← c.self.view_is)
-    (exit_busy s c.args.task c.in-Some.owner.now (Busy c.in-Some-begun_by.cast) (sym c.in-Some.ensures)
+    (exit_busy s c.args.task c.in-Some.owner.now (Busy c.in-Some-begun_by.broadcast) (sym c.in-Some.ensures)
     (busy_at s _ c.args.task _ c.deref.ensures.value c.in-Some-begun_by.ensures))
 
 pub returns-clause-ok : goal.returns-clause-ok

@@ -19,7 +19,7 @@ returns-in-Some-begun_by-clause-ok c =
     let o = seen_task c.owner.inside in
     rw (← c.self.view_is)
     (fork_busy s c.args.task c.args.child c.args.process o (seen_numbered c.in-Some-get.field-0) (rw (← c.owner.view_is) at (sym c.in-Some.ensures))
-    (sym c.in-Some-get.ensures) (Busy c.in-Some-begun_by.cast) (busy_at s _ c.args.task _ c.deref.ensures.value c.in-Some-begun_by.ensures))
+    (sym c.in-Some-get.ensures) (Busy c.in-Some-begun_by.broadcast) (busy_at s _ c.args.task _ c.deref.ensures.value c.in-Some-begun_by.ensures))
 
 pub returns-then-has_process-clause-ok : goal.returns-then-has_process-clause-ok
 returns-then-has_process-clause-ok c =

@@ -10,7 +10,7 @@ pub returns-in-Some-clause-ok : goal.returns-in-Some-clause-ok
 returns-in-Some-clause-ok c =
     let s = seen_state c.self.inside in
     rw (← c.self.view_is)
-    (prepare_busy s c.args.label c.args.task c.args.hold (Busy c.in-Some.cast) (sym c.alive.ensures ∙ c.if-not-alive.false)
+    (prepare_busy s c.args.label c.args.task c.args.hold (Busy c.in-Some.broadcast) (sym c.alive.ensures ∙ c.if-not-alive.false)
     (busy_at s _ c.args.task _ c.deref.ensures.value c.in-Some.ensures))
 
 pub returns-in_default-slot-clause-ok : goal.returns-in_default-slot-clause-ok

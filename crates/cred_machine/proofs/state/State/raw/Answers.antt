@@ -13,7 +13,7 @@ returns-in-Some-open_in-clause-ok c =
     let o = seen_task c.owner.inside in
     rw (← c.self.view_is)
     (raw_busy s c.args.task c.args.call.now o (seen_numbered c.in-Some-get.old)
-    (rw (← c.owner.view_is) at (sym c.in-Some.ensures)) (sym c.in-Some-get.ensures) (Busy c.in-Some-open_in.cast)
+    (rw (← c.owner.view_is) at (sym c.in-Some.ensures)) (sym c.in-Some-get.ensures) (Busy c.in-Some-open_in.broadcast)
     (idle_in s _ o.process _ c.deref.ensures.value c.in-Some-open_in.ensures))
 
 pub returns-in-Err-Perm-clause-ok : goal.returns-in-Err-Perm-clause-ok

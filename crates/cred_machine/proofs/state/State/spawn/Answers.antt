@@ -16,7 +16,7 @@ returns-in-Some-begun_by-clause-ok c =
     let o = seen_task c.owner.inside in
     rw (← c.self.view_is)
     (spawn_busy s c.args.task c.args.child 0 o (seen_numbered c.in-Some-get.field-0) (rw (← c.owner.view_is) at (sym c.in-Some.ensures))
-    (sym c.in-Some-get.ensures) (Busy c.in-Some-begun_by.cast) (busy_at s _ c.args.task _ c.deref.ensures.value c.in-Some-begun_by.ensures))
+    (sym c.in-Some-get.ensures) (Busy c.in-Some-begun_by.broadcast) (busy_at s _ c.args.task _ c.deref.ensures.value c.in-Some-begun_by.ensures))
 
 pub join-requires : goal.join-requires
 join-requires c =

@@ -5,7 +5,7 @@ use Rattle.cred_model.specs.State.{Task, task_of}
 use Rattle.cred_model.specs.Dumpable.{renewed}
 use Rattle.cred_setid.specs.Parts.{changed}
 use Rattle.cred_tables.specs.Kept.{cred_under, as_parts, state_of}
-use Rattle.cred_state.proofs.Acts.{next_is, next-lives, cast_there, waits_there, place_within, set_there, aborts_so, same_spare, act_full, act_kept, act_sealed}
+use Rattle.cred_state.proofs.Acts.{next_is, next-lives, broadcast_there, waits_there, place_within, set_there, aborts_so, same_spare, act_full, act_kept, act_sealed}
 use Rattle.cred_tables.proofs.Bags.{bag-keeps}
 use Rattle.cred_model.proofs.Places.{if_some}
 use Rattle.cred_tables.proofs.Sealing.{current-held, drops, none_spare, seals_spare}
@@ -19,7 +19,7 @@ use Rattle.cred_state.proofs.state.State.act_with.Goals as goal
 pub renew_in-requires : goal.renew_in-requires
 renew_in-requires c =
     let t = c.self.inside in
-    let s = state_of (as_parts t.tasks t.casts t.files t.holds t.prepared t.dump t.infos) t.master.slots t.slots in
+    let s = state_of (as_parts t.tasks t.broadcasts t.files t.holds t.prepared t.dump t.infos) t.master.slots t.slots in
     let sound = rw (← c.self.view_is) at c.requires.sound in
     let found = rw (← c.self.view_is) at c.requires.next in
     next-lives (next_is s c.args.number c.args.next.task sound found.least)
@@ -27,7 +27,7 @@ renew_in-requires c =
 pub set_like-requires-clause-sealed : goal.set_like-requires-clause-sealed
 set_like-requires-clause-sealed c =
     let t = c.self.inside in
-    let s = state_of (as_parts t.tasks t.casts t.files t.holds t.prepared t.dump t.infos) t.master.slots t.slots in
+    let s = state_of (as_parts t.tasks t.broadcasts t.files t.holds t.prepared t.dump t.infos) t.master.slots t.slots in
     let found = rw (← c.self.view_is) at c.requires.next in
     found-sealed c.self.invariant.0 c.args.next.now (is_found s.creds (λ (t : Task). t.current) (task_of s c.args.next.task) _ found.has)
     (current-in_use s c.args.next.task _ found.has)
@@ -35,7 +35,7 @@ set_like-requires-clause-sealed c =
 pub set_like-requires-clause-apart : goal.set_like-requires-clause-apart
 set_like-requires-clause-apart c =
     let t = c.self.inside in
-    let s = state_of (as_parts t.tasks t.casts t.files t.holds t.prepared t.dump t.infos) t.master.slots t.slots in
+    let s = state_of (as_parts t.tasks t.broadcasts t.files t.holds t.prepared t.dump t.infos) t.master.slots t.slots in
     let found = rw (← c.self.view_is) at c.requires.next in
     let seals = seals_spare {t = t.slots} c.in_ok-reserve.ensures.ok c.seal_next-new.ensures in
     stands_apart seals c.args.next.now.number c.args.next.now.slot
@@ -46,7 +46,7 @@ set_like-requires-clause-apart c =
 pub set_like-requires-clause-valid : goal.set_like-requires-clause-valid
 set_like-requires-clause-valid c =
     let t = c.self.inside in
-    let s = state_of (as_parts t.tasks t.casts t.files t.holds t.prepared t.dump t.infos) t.master.slots t.slots in
+    let s = state_of (as_parts t.tasks t.broadcasts t.files t.holds t.prepared t.dump t.infos) t.master.slots t.slots in
     let found = rw (← c.self.view_is) at c.requires.next in
     let there = is_found s.creds (λ (t : Task). t.current) (task_of s c.args.next.task) _ found.has in
     λ x at. rw (found-there t.master.slots t.slots.sealed c.args.next.now there x at) (rw (← c.self.view_is) at c.requires.valid)
@@ -62,7 +62,7 @@ seal_next-new-requires-clause-free c = sym c.in-Some.ensures
 pub set_current_at-requires : goal.set_current_at-requires
 set_current_at-requires c =
     let t = c.self.inside in
-    let s = state_of (as_parts t.tasks t.casts t.files t.holds t.prepared t.dump t.infos) t.master.slots t.slots in
+    let s = state_of (as_parts t.tasks t.broadcasts t.files t.holds t.prepared t.dump t.infos) t.master.slots t.slots in
     let sound = rw (← c.self.view_is) at c.requires.sound in
     let found = rw (← c.self.view_is) at c.requires.next in
     let next = next_is s c.args.number c.args.next.task sound found.least in
@@ -77,30 +77,30 @@ drop_later-requires c =
 pub act_at-left-requires : goal.act_at-left-requires
 act_at-left-requires c =
     let t = c.self.inside in
-    let s = state_of (as_parts t.tasks t.casts t.files t.holds t.prepared t.dump t.infos) t.master.slots t.slots in
+    let s = state_of (as_parts t.tasks t.broadcasts t.files t.holds t.prepared t.dump t.infos) t.master.slots t.slots in
     let sound = rw (← c.self.view_is) at c.requires.sound in
     let found = rw (← c.self.view_is) at c.requires.next in
     let next = next_is s c.args.number c.args.next.task sound found.least in
-    waits_there next c.args.next.cast found.under
+    waits_there next c.args.next.broadcast found.under
 
 pub invariant_of-self-2 : goal.invariant_of-self-2
 invariant_of-self-2 c =
     let t = c.self.inside in
-    let s = state_of (as_parts t.tasks t.casts t.files t.holds t.prepared t.dump t.infos) t.master.slots t.slots in
+    let s = state_of (as_parts t.tasks t.broadcasts t.files t.holds t.prepared t.dump t.infos) t.master.slots t.slots in
     let sound = rw (← c.self.view_is) at c.requires.sound in
     let found = rw (← c.self.view_is) at c.requires.next in
     let next = next_is s c.args.number c.args.next.task sound found.least in
     let new = changed (cred_under s.creds c.args.next.now.number) c.args.parts.now c.args.groups.now in
     let rule =
-    if_some (λ cast. set_id (cred_under s.creds c.args.next.now.number) cast.call ≡ Ok new) (slice_get s.casts c.args.next.cast) next.cast
-    (cast_there next c.args.next.cast found.under) (rw (← c.self.view_is) at c.requires.made) in
+    if_some (λ broadcast. set_id (cred_under s.creds c.args.next.now.number) broadcast.call ≡ Ok new) (slice_get s.broadcasts c.args.next.broadcast) next.broadcast
+    (broadcast_there next c.args.next.broadcast found.under) (rw (← c.self.view_is) at c.requires.made) in
     let made =
     c.set_like.ensures.made _
     (found-place c.self.invariant.0 c.args.next.now (is_found s.creds (λ (t : Task). t.current) (task_of s c.args.next.task) _ found.has)
     (current-in_use s c.args.next.task _ found.has)) in
     let flags = c.renew_in.ensures next.owner next.lives
     ∙ ap (renewed t.dump next.owner.process) (rw (← c.self.view_is) at c.requires.other) in
-    rw (set_there next _ found.there _ c.set_current_at.ensures, made, c.act_at-left.ensures.casts, flags) (
+    rw (set_there next _ found.there _ c.set_current_at.ensures, made, c.act_at-left.ensures.broadcasts, flags) (
       act_kept c.self.invariant.0 c.args.number c.args.next.task next _ found.has new rule c.set_like.ensures.long
           (seals_spare c.in_ok-reserve.ensures.ok c.seal_next-new.ensures) sound.tasks (drops c.drop_later.ensures.held c.drop_later.ensures.table),
       put_free t.prepared t.master.loans t.master.slots c.in-Some.slot (Some new)
@@ -110,22 +110,22 @@ invariant_of-self-2 c =
 pub returns-clause-ok : goal.returns-clause-ok
 returns-clause-ok c =
     let t = c.self.inside in
-    let s = state_of (as_parts t.tasks t.casts t.files t.holds t.prepared t.dump t.infos) t.master.slots t.slots in
+    let s = state_of (as_parts t.tasks t.broadcasts t.files t.holds t.prepared t.dump t.infos) t.master.slots t.slots in
     let sound = rw (← c.self.view_is) at c.requires.sound in
     let found = rw (← c.self.view_is) at c.requires.next in
     let next = next_is s c.args.number c.args.next.task sound found.least in
     let new = changed (cred_under s.creds c.args.next.now.number) c.args.parts.now c.args.groups.now in
     let rule =
-    if_some (λ cast. set_id (cred_under s.creds c.args.next.now.number) cast.call ≡ Ok new) (slice_get s.casts c.args.next.cast) next.cast
-    (cast_there next c.args.next.cast found.under) (rw (← c.self.view_is) at c.requires.made) in
+    if_some (λ broadcast. set_id (cred_under s.creds c.args.next.now.number) broadcast.call ≡ Ok new) (slice_get s.broadcasts c.args.next.broadcast) next.broadcast
+    (broadcast_there next c.args.next.broadcast found.under) (rw (← c.self.view_is) at c.requires.made) in
     let made =
     c.set_like.ensures.made _
     (found-place c.self.invariant.0 c.args.next.now (is_found s.creds (λ (t : Task). t.current) (task_of s c.args.next.task) _ found.has)
     (current-in_use s c.args.next.task _ found.has)) in
-    let left = if_some _ (slice_get s.casts c.args.next.cast) next.cast (cast_there next c.args.next.cast found.under) c.act_at-left.ensures.left in
+    let left = if_some _ (slice_get s.broadcasts c.args.next.broadcast) next.broadcast (broadcast_there next c.args.next.broadcast found.under) c.act_at-left.ensures.left in
     let flags = c.renew_in.ensures next.owner next.lives
     ∙ ap (renewed t.dump next.owner.process) (rw (← c.self.view_is) at c.requires.other) in
-    rw (← c.self.view_is, set_there next _ found.there _ c.set_current_at.ensures, made, c.act_at-left.ensures.casts, flags)
+    rw (← c.self.view_is, set_there next _ found.there _ c.set_current_at.ensures, made, c.act_at-left.ensures.broadcasts, flags)
     (act_sealed c.self.invariant.0 c.args.number c.args.next.task next _ found.has new rule c.set_like.ensures.long
     (seals_spare c.in_ok-reserve.ensures.ok c.seal_next-new.ensures) sound.tasks (drops c.drop_later.ensures.held c.drop_later.ensures.table)
     c.act_at-left.result left)
@@ -133,15 +133,15 @@ returns-clause-ok c =
 pub returns-in_default-clause-ok : goal.returns-in_default-clause-ok
 returns-in_default-clause-ok c =
     let t = c.self.inside in
-    let parts = as_parts t.tasks t.casts t.files t.holds t.prepared t.dump t.infos in
+    let parts = as_parts t.tasks t.broadcasts t.files t.holds t.prepared t.dump t.infos in
     let s = state_of parts t.master.slots t.slots in
     let sound = rw (← c.self.view_is) at c.requires.sound in
     let found = rw (← c.self.view_is) at c.requires.next in
     let next = next_is s c.args.number c.args.next.task sound found.least in
     let new = changed (cred_under s.creds c.args.next.now.number) c.args.parts.now c.args.groups.now in
     let rule =
-    if_some (λ cast. set_id (cred_under s.creds c.args.next.now.number) cast.call ≡ Ok new) (slice_get s.casts c.args.next.cast) next.cast
-    (cast_there next c.args.next.cast found.under) (rw (← c.self.view_is) at c.requires.made) in
+    if_some (λ broadcast. set_id (cred_under s.creds c.args.next.now.number) broadcast.call ≡ Ok new) (slice_get s.broadcasts c.args.next.broadcast) next.broadcast
+    (broadcast_there next c.args.next.broadcast found.under) (rw (← c.self.view_is) at c.requires.made) in
     let none = sym c.in_default.ensures in
     let ended = c.end_process_of in
     rw (← c.self.view_is)
@@ -153,7 +153,7 @@ returns-in_default-clause-ok c =
 pub returns-clause-words : goal.returns-clause-words
 returns-clause-words c =
     let t = c.self.inside in
-    let s = state_of (as_parts t.tasks t.casts t.files t.holds t.prepared t.dump t.infos) t.master.slots t.slots in
+    let s = state_of (as_parts t.tasks t.broadcasts t.files t.holds t.prepared t.dump t.infos) t.master.slots t.slots in
     let found = rw (← c.self.view_is) at c.requires.next in
     let made =
     c.set_like.ensures.made _
@@ -170,7 +170,7 @@ invariant_of-self-in_default c = (kept_spare c.self.invariant.0 c.in_ok-reserve.
 pub end_process_of-requires : goal.end_process_of-requires
 end_process_of-requires c =
     let t = c.self.inside in
-    let parts = as_parts t.tasks t.casts t.files t.holds t.prepared t.dump t.infos in
+    let parts = as_parts t.tasks t.broadcasts t.files t.holds t.prepared t.dump t.infos in
     let s = state_of parts t.master.slots t.slots in
     let sound = rw (← c.self.view_is) at c.requires.sound in
     let found = rw (← c.self.view_is) at c.requires.next in

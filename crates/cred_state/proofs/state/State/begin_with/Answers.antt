@@ -22,12 +22,12 @@ returns-in_default-clause-ok c =
     let may = rw (← c.self.view_is) at c.requires.may in
     let rule = rw (← c.self.view_is) at c.requires.made in
     let none = sym c.in_default.ensures in
-    let s = state_of (as_parts t.tasks t.casts t.files t.holds t.prepared t.dump t.infos) t.master.slots t.slots in
+    let s = state_of (as_parts t.tasks t.broadcasts t.files t.holds t.prepared t.dump t.infos) t.master.slots t.slots in
     let new = changed (cred_under s.creds c.args.now.number) c.args.parts.now c.args.groups.now in
     rw (← c.self.view_is)
     (begin_full c.self.invariant.0 c.sweep.new.self c.args.task _ new may.has c.args.line c.args.call.now may rule
     (none_spare t.slots c.in_ok-reserve.ensures.ok none)
-    (roomy_spare (as_parts t.tasks t.casts t.files t.holds t.prepared t.dump t.infos) t.master.slots t.slots _ _ _ c.in_ok-reserve.ensures.ok
+    (roomy_spare (as_parts t.tasks t.broadcasts t.files t.holds t.prepared t.dump t.infos) t.master.slots t.slots _ _ _ c.in_ok-reserve.ensures.ok
     (c.sweep.ensures ∙ sym (full_swept c.reserve.new.self none))))
 
 pub begin_in-requires : goal.begin_in-requires
@@ -35,7 +35,7 @@ begin_in-requires c =
     let t = c.self.inside in
     let may = rw (← c.self.view_is) at c.requires.may in
     let sound = rw (← c.self.view_is) at c.requires.sound in
-    broadcast_may_begin (state_of (as_parts t.tasks t.casts t.files t.holds t.prepared t.dump t.infos) t.master.slots t.slots) c.args.line c.args.task _ may
+    broadcast_may_begin (state_of (as_parts t.tasks t.broadcasts t.files t.holds t.prepared t.dump t.infos) t.master.slots t.slots) c.args.line c.args.task _ may
     sound
 
 pub renew_in-requires : goal.renew_in-requires
@@ -46,7 +46,7 @@ renew_in-requires c =
 pub set_like-requires-clause-sealed : goal.set_like-requires-clause-sealed
 set_like-requires-clause-sealed c =
     let t = c.self.inside in
-    let s = state_of (as_parts t.tasks t.casts t.files t.holds t.prepared t.dump t.infos) t.master.slots t.slots in
+    let s = state_of (as_parts t.tasks t.broadcasts t.files t.holds t.prepared t.dump t.infos) t.master.slots t.slots in
     let may = rw (← c.self.view_is) at c.requires.may in
     found-sealed c.self.invariant.0 c.args.now (is_found s.creds (λ (t : Task). t.current) (task_of s c.args.task) _ may.has)
     (current-in_use s c.args.task _ may.has)
@@ -54,7 +54,7 @@ set_like-requires-clause-sealed c =
 pub set_like-requires-clause-apart : goal.set_like-requires-clause-apart
 set_like-requires-clause-apart c =
     let t = c.self.inside in
-    let s = state_of (as_parts t.tasks t.casts t.files t.holds t.prepared t.dump t.infos) t.master.slots t.slots in
+    let s = state_of (as_parts t.tasks t.broadcasts t.files t.holds t.prepared t.dump t.infos) t.master.slots t.slots in
     let may = rw (← c.self.view_is) at c.requires.may in
     let seals = seals_spare {t = t.slots} c.in_ok-reserve.ensures.ok c.seal_next-number.ensures in
     stands_apart seals c.args.now.number c.args.now.slot
@@ -65,7 +65,7 @@ set_like-requires-clause-apart c =
 pub set_like-requires-clause-valid : goal.set_like-requires-clause-valid
 set_like-requires-clause-valid c =
     let t = c.self.inside in
-    let s = state_of (as_parts t.tasks t.casts t.files t.holds t.prepared t.dump t.infos) t.master.slots t.slots in
+    let s = state_of (as_parts t.tasks t.broadcasts t.files t.holds t.prepared t.dump t.infos) t.master.slots t.slots in
     let may = rw (← c.self.view_is) at c.requires.may in
     let there = is_found s.creds (λ (t : Task). t.current) (task_of s c.args.task) _ may.has in
     λ x at. rw (found-there t.master.slots t.slots.sealed c.args.now there x at) (rw (← c.self.view_is) at c.requires.valid)
@@ -94,7 +94,7 @@ invariant_of-self-2 c =
     let may = rw (← c.self.view_is) at c.requires.may in
     let sound = rw (← c.self.view_is) at c.requires.sound in
     let t = c.self.inside in
-    let s = state_of (as_parts t.tasks t.casts t.files t.holds t.prepared t.dump t.infos) t.master.slots t.slots in
+    let s = state_of (as_parts t.tasks t.broadcasts t.files t.holds t.prepared t.dump t.infos) t.master.slots t.slots in
     let new = changed (cred_under s.creds c.args.now.number) c.args.parts.now c.args.groups.now in
     let made =
     c.set_like.ensures.made _
@@ -103,7 +103,7 @@ invariant_of-self-2 c =
     rw (c.set_current.ensures.tasks, made) (
       replaced_kept c.self.invariant.0 c.drop_later.new.self c.args.task _ new may.has c.set_like.ensures.long
           (seals_spare c.in_ok-reserve.ensures.ok c.seal_next-number.ensures) sound.tasks (drops c.drop_later.ensures.held c.drop_later.ensures.table)
-          c.begin_in.new.casts c.renew_in.new.dump,
+          c.begin_in.new.broadcasts c.renew_in.new.dump,
       put_free c.self.inside.prepared c.self.inside.master.loans c.self.inside.master.slots c.in-Some.slot (Some new)
           (free_apart c.self.invariant.0 c.in-Some.slot (some_spare c.self.inside.slots c.in_ok-reserve.ensures.ok (sym c.in-Some.ensures))) c.self.invariant.1,
     )
@@ -114,7 +114,7 @@ returns-clause-ok c =
     let may = rw (← c.self.view_is) at c.requires.may in
     let sound = rw (← c.self.view_is) at c.requires.sound in
     let rule = rw (← c.self.view_is) at c.requires.made in
-    let s = state_of (as_parts t.tasks t.casts t.files t.holds t.prepared t.dump t.infos) t.master.slots t.slots in
+    let s = state_of (as_parts t.tasks t.broadcasts t.files t.holds t.prepared t.dump t.infos) t.master.slots t.slots in
     let new = changed (cred_under s.creds c.args.now.number) c.args.parts.now c.args.groups.now in
     let made =
     c.set_like.ensures.made _
@@ -124,7 +124,7 @@ returns-clause-ok c =
     let other = rw (← c.self.view_is) at c.requires.other in
     let flags = c.renew_in.ensures may.owner may.lives
     ∙ ap (renewed t.dump may.owner.process) other in
-    rw (← c.self.view_is, c.set_current.ensures.tasks, made, begun.casts, flags)
+    rw (← c.self.view_is, c.set_current.ensures.tasks, made, begun.broadcasts, flags)
     (begin_sealed c.self.invariant.0 c.drop_later.new.self c.args.task _ new may.has c.set_like.ensures.long
     (seals_spare c.in_ok-reserve.ensures.ok c.seal_next-number.ensures) sound.tasks (drops c.drop_later.ensures.held c.drop_later.ensures.table)
     c.args.line c.args.call.now may c.in_ok-left.left rule begun.waiting)
@@ -132,7 +132,7 @@ returns-clause-ok c =
 pub returns-clause-words : goal.returns-clause-words
 returns-clause-words c =
     let t = c.self.inside in
-    let s = state_of (as_parts t.tasks t.casts t.files t.holds t.prepared t.dump t.infos) t.master.slots t.slots in
+    let s = state_of (as_parts t.tasks t.broadcasts t.files t.holds t.prepared t.dump t.infos) t.master.slots t.slots in
     let may = rw (← c.self.view_is) at c.requires.may in
     let made =
     c.set_like.ensures.made _

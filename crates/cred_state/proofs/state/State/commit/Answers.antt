@@ -18,10 +18,10 @@ returns-in-Some-begun-clause-ok c =
     let ready = c.in-Some.ensures in
     let busy = rw (← c.self.view_is) at c.in-Some-begun.ensures in
     let t = c.self.inside in
-    let s = state_of (as_parts t.tasks t.casts t.files t.holds t.prepared t.dump t.infos) t.master.slots t.slots in
+    let s = state_of (as_parts t.tasks t.broadcasts t.files t.holds t.prepared t.dump t.infos) t.master.slots t.slots in
     rw (← c.self.view_is)
     (let own = owner_of s c.in-Some.field-0.task c.in-Some-current.now c.in-Some-current.ensures in
-    commit_busy s c.args.label _ ready.last ready.found refl (ap is_access ready.by ∙ ready.for_task) c.in-Some-begun.cast own.0 own.1 busy)
+    commit_busy s c.args.label _ ready.last ready.found refl (ap is_access ready.by ∙ ready.for_task) c.in-Some-begun.broadcast own.0 own.1 busy)
 
 pub returns-in-Some-overridden-clause-ok : goal.returns-in-Some-overridden-clause-ok
 returns-in-Some-overridden-clause-ok c =
@@ -29,7 +29,7 @@ returns-in-Some-overridden-clause-ok c =
     let over = rw (← c.self.view_is) at c.in-Some-overridden.ensures in
     let idle = rw (← c.self.view_is) at c.in_default-begun.ensures in
     let t = c.self.inside in
-    let s = state_of (as_parts t.tasks t.casts t.files t.holds t.prepared t.dump t.infos) t.master.slots t.slots in
+    let s = state_of (as_parts t.tasks t.broadcasts t.files t.holds t.prepared t.dump t.infos) t.master.slots t.slots in
     rw (← c.self.view_is)
     (let own = owner_of s c.in-Some.field-0.task c.in-Some-current.now c.in-Some-current.ensures in
     commit_overridden s c.args.label _ ready.last ready.found refl (ap is_access ready.by ∙ ready.for_task) c.in-Some-overridden.depth own.0 own.1 idle
@@ -42,7 +42,7 @@ returns-then-now-base-clause-ok c =
     let idle = rw (← c.self.view_is) at c.in_default-begun.ensures in
     let aborts = rw (← c.self.view_is) at c.abort.ensures.made in
     let t = c.self.inside in
-    let s = state_of (as_parts t.tasks t.casts t.files t.holds t.prepared t.dump t.infos) t.master.slots t.slots in
+    let s = state_of (as_parts t.tasks t.broadcasts t.files t.holds t.prepared t.dump t.infos) t.master.slots t.slots in
     rw (← c.self.view_is)
     (let own = owner_of s c.in-Some.field-0.task c.in-Some-current.now c.in-Some-current.ensures in
     commit_stale s c.args.label _ ready.last ready.found refl (ap is_access ready.by ∙ ready.for_task) c.abort.new.self.state c.abort.result

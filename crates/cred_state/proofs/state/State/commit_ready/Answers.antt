@@ -5,7 +5,7 @@ use Rattle.cred_model.specs.State.{Changed, Prepared}
 use Rattle.cred_model.specs.Moves.{with_current}
 use Rattle.cred_model.specs.Step.{is_access}
 use Rattle.cred_model.proofs.Places.{find-at}
-use Rattle.cred_model.specs.Casts.{casts_left}
+use Rattle.cred_model.specs.Casts.{broadcasts_left}
 use Rattle.cred_slots.specs.Table.{Table}
 use Rattle.cred_procs.specs.Tasks.{task_in}
 use Rattle.cred_tables.specs.Kept.{SealsKept, as_parts, state_of}
@@ -112,10 +112,10 @@ invariant_of-self-2 c =
     home in
     let change : c.last.inside.change ≡ c.args.change = ap (λ (x : Changed). x.change) c.last.view_is ∙ same.2 in
     let process = owner_process t.tasks c.args.task c.unwrap-process.result e.owner e.lives c.unwrap-process.ensures c.process_of.ensures in
-    let casts : c.drop_cast.new.casts ≡ casts_left c.args.change e.owner.process t.casts
-    = c.drop_cast.ensures ∙ ap (λ (x : Change). casts_left x c.unwrap-process.result t.casts) change
-    ∙ ap (λ (n : ℕ). casts_left c.args.change n t.casts) process in
-    let s = state_of (as_parts t.tasks t.casts t.files t.holds t.prepared t.dump t.infos) t.master.slots
+    let broadcasts : c.drop_broadcast.new.broadcasts ≡ broadcasts_left c.args.change e.owner.process t.broadcasts
+    = c.drop_broadcast.ensures ∙ ap (λ (x : Change). broadcasts_left x c.unwrap-process.result t.broadcasts) change
+    ∙ ap (λ (n : ℕ). broadcasts_left c.args.change n t.broadcasts) process in
+    let s = state_of (as_parts t.tasks t.broadcasts t.files t.holds t.prepared t.dump t.infos) t.master.slots
     t.slots in
     let changed : changed_of t.prepared c.args.label ≡ Some c.finish-last.result.1
     = ap (option_and_then (λ (p : Prepared). p.changed))
@@ -125,7 +125,7 @@ invariant_of-self-2 c =
     c.args.other c.commit.new.self c.commit.ensures
     (ap (λ (x : Changed). x.change) c.last.view_is) (ap (λ (x : Changed). x.gains) c.last.view_is)
     process ((rw (← c.self.view_is) at c.requires.other) c.finish-last.result.1 changed) e.lives in
-    rw (tasks, casts, gives.gives.left, flags) (
+    rw (tasks, broadcasts, gives.gives.left, flags) (
       commit_kept c.self.invariant.0 gives.gives.place _ gives.gives.there c.args.change now own less c.seal_kept-number.new.slots
           c.finish-last.result.1 words seals sound.tasks sound.slots.own,
       put_less t.prepared gives.gives.place t.master.loans t.master.slots c.self.invariant.1,
@@ -160,10 +160,10 @@ returns-clause-ok c =
     let gains : c.last.inside.gains ≡ c.finish-last.result.1.gains = ap (λ (x : Changed). x.gains) c.last.view_is in
     let change : c.last.inside.change ≡ c.args.change = ap (λ (x : Changed). x.change) c.last.view_is ∙ same.2 in
     let process = owner_process t.tasks c.args.task c.unwrap-process.result e.owner e.lives c.unwrap-process.ensures c.process_of.ensures in
-    let casts : c.drop_cast.new.casts ≡ casts_left c.args.change e.owner.process t.casts
-    = c.drop_cast.ensures ∙ ap (λ (x : Change). casts_left x c.unwrap-process.result t.casts) change
-    ∙ ap (λ (n : ℕ). casts_left c.args.change n t.casts) process in
-    let s = state_of (as_parts t.tasks t.casts t.files t.holds t.prepared t.dump t.infos) t.master.slots
+    let broadcasts : c.drop_broadcast.new.broadcasts ≡ broadcasts_left c.args.change e.owner.process t.broadcasts
+    = c.drop_broadcast.ensures ∙ ap (λ (x : Change). broadcasts_left x c.unwrap-process.result t.broadcasts) change
+    ∙ ap (λ (n : ℕ). broadcasts_left c.args.change n t.broadcasts) process in
+    let s = state_of (as_parts t.tasks t.broadcasts t.files t.holds t.prepared t.dump t.infos) t.master.slots
     t.slots in
     let changed : changed_of t.prepared c.args.label ≡ Some c.finish-last.result.1
     = ap (option_and_then (λ (p : Prepared). p.changed))
@@ -173,11 +173,11 @@ returns-clause-ok c =
     c.args.other c.commit.new.self c.commit.ensures
     (ap (λ (x : Changed). x.change) c.last.view_is) (ap (λ (x : Changed). x.gains) c.last.view_is)
     process ((rw (← c.self.view_is) at c.requires.other) c.finish-last.result.1 changed) e.lives in
-    rw (← c.self.view_is, tasks, casts, gives.gives.left, flags, c.committed_by.ensures, gains, change)
+    rw (← c.self.view_is, tasks, broadcasts, gives.gives.left, flags, c.committed_by.ensures, gains, change)
     (commit_done c.self.invariant.0 gives.gives.place _ gives.gives.there c.args.change now own less c.seal_kept-number.new.slots
     c.finish-last.result.1 words seals sound.tasks sound.slots.own c.args.label (length c.items-2.result.now) gives.gives.found refl
     (ap is_access same.2 ∙ ready.for_task) (rw same.0 idle)
-    (own_owner (state_of (as_parts t.tasks t.casts t.files t.holds t.prepared t.dump t.infos) t.master.slots t.slots) gives.task own.owner own.lives
+    (own_owner (state_of (as_parts t.tasks t.broadcasts t.files t.holds t.prepared t.dump t.infos) t.master.slots t.slots) gives.task own.owner own.lives
     (rw same.0 allowed))
     same.2 (sym same.1)
     (ap length c.items-2.ensures))

@@ -33,4 +33,4 @@ returns-clause-state c =
     let all = ends_all c.args.cause t.slots c.sweep_at.ensures (c.items.ensures ∙ gone.gave_up) c.drop_all.ensures.held c.drop_all.ensures.table in
     rw (← c.self.view_is, gone.left, c.dropped.ensures, c.gone.ensures)
     (for_owner (task_in t.tasks c.args.task) (c.process_of.ensures) c.unwrap-process.ensures
-    (λ cast of. process_ended c.self.invariant.0 c.args.cause c.unwrap-process.result c.drop_all.new.slots all cast of))
+    (λ broadcast of. process_ended c.self.invariant.0 c.args.cause c.unwrap-process.result c.drop_all.new.slots all broadcast of))

@@ -16,7 +16,7 @@ invariant_of-self-2 c =
     let all = drops_all t {m = t.spare} refl (c.items.ensures ∙ c.in_ok-numbers.ensures.numbers) c.drop_all.ensures.held c.drop_all.ensures.table in
     rw (c.in_ok-numbers.ensures.tasks, c.gone.ensures) (
       kept_beside (ended_kept c.self.invariant.0 (is_task c.args.task) c.drop_all.new.slots all)
-          (waits_no_more c.args.task c.self.inside.casts) c.exit_in.new.dump,
+          (waits_no_more c.args.task c.self.inside.broadcasts) c.exit_in.new.dump,
       c.self.invariant.1,
     )
 

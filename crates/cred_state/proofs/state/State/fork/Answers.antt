@@ -49,7 +49,7 @@ invariant_of-self-in_err-fork_in c =
 pub invariant_of-self-2 : goal.invariant_of-self-2
 invariant_of-self-2 c =
     let t = c.self.inside in
-    let s = state_of (as_parts t.tasks t.casts t.files t.holds t.prepared t.dump t.infos) t.master.slots t.slots in
+    let s = state_of (as_parts t.tasks t.broadcasts t.files t.holds t.prepared t.dump t.infos) t.master.slots t.slots in
     let may = rw (← c.self.view_is) at c.in-Ok.ensures in
     let u = current_is s c.args.task _ may.0.has in
     let grown = c.in_ok-fork_in.ensures.tasks
@@ -57,8 +57,8 @@ invariant_of-self-2 c =
       kept_beside
           (kept_child c.self.invariant.0 c.fork_in.new.tasks c.args.child c.args.process u.owner grown
           u.number c.in_ok-reserve.ensures.ok c.add.ensures.held c.add.ensures.table
-          (current-held c.self.invariant.0 c.args.task _ may.0.has) t.casts)
-          t.casts c.fork_in.new.dump,
+          (current-held c.self.invariant.0 c.args.task _ may.0.has) t.broadcasts)
+          t.broadcasts c.fork_in.new.dump,
       c.self.invariant.1,
     )
 
@@ -67,6 +67,6 @@ returns-clause-ok c =
     let may = rw (← c.self.view_is) at c.in-Ok.ensures in
     let t = c.self.inside in
     rw (← c.self.view_is)
-    (fork_done (as_parts t.tasks t.casts t.files t.holds t.prepared t.dump t.infos) t.master.slots t.slots c.in_ok-reserve.ensures.ok c.add.ensures.table
+    (fork_done (as_parts t.tasks t.broadcasts t.files t.holds t.prepared t.dump t.infos) t.master.slots t.slots c.in_ok-reserve.ensures.ok c.add.ensures.table
     c.args.task c.args.child _ may.0 c.args.process may.1
     c.in_ok-fork_in.ensures.tasks c.in_ok-fork_in.ensures.flags)

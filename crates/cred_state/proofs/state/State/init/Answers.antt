@@ -24,12 +24,12 @@ returns-clause-ok c = c.start_with-answer.ensures.ok c.args.user c.args.group c.
 pub returns-in-Some-clause-ok : goal.returns-in-Some-clause-ok
 returns-in-Some-clause-ok c =
     does_same _ _ _
-    (init_busy c.args.self.now.state c.args.number c.args.process c.args.user c.args.group c.args.ns c.args.root c.in-Some.cast c.in-Some.ensures)
+    (init_busy c.args.self.now.state c.args.number c.args.process c.args.user c.args.group c.args.ns c.args.root c.in-Some.broadcast c.in-Some.ensures)
 
 pub returns-then-alive-clause-ok : goal.returns-then-alive-clause-ok
 returns-then-alive-clause-ok c =
     let t = c.self.inside in
-    let s = state_of (as_parts t.tasks t.casts t.files t.holds t.prepared t.dump t.infos) t.master.slots t.slots in
+    let s = state_of (as_parts t.tasks t.broadcasts t.files t.holds t.prepared t.dump t.infos) t.master.slots t.slots in
     let idle = rw (← c.self.view_is) at c.in_default.ensures in
     rw (← c.self.view_is)
     (does_same _ _ _ (init_exists s c.args.number c.args.process c.args.user c.args.group c.args.ns c.args.root idle (sym c.alive.ensures ∙ c.if-alive.true)))
@@ -37,7 +37,7 @@ returns-then-alive-clause-ok c =
 pub returns-then-full-clause-ok : goal.returns-then-full-clause-ok
 returns-then-full-clause-ok c =
     let t = c.self.inside in
-    let s = state_of (as_parts t.tasks t.casts t.files t.holds t.prepared t.dump t.infos) t.master.slots t.slots in
+    let s = state_of (as_parts t.tasks t.broadcasts t.files t.holds t.prepared t.dump t.infos) t.master.slots t.slots in
     let idle = rw (← c.self.view_is) at c.in_default.ensures in
     let new = none_by_test _ c.alive.result c.alive.ensures c.if-alive.false in
     let many = many_by_test (length t.tasks) c.full.result c.full.ensures.full c.if-full.true in

@@ -11,7 +11,7 @@ lend-requires-clause-sealed c =
 pub returns-clause-hold : goal.returns-clause-hold
 returns-clause-hold c =
     let t = c.self.inside in
-    let s = state_of (as_parts t.tasks t.casts t.files t.holds t.prepared t.dump t.infos) t.master.slots t.slots in
+    let s = state_of (as_parts t.tasks t.broadcasts t.files t.holds t.prepared t.dump t.infos) t.master.slots t.slots in
     let own = rw (← c.self.view_is) at c.requires.own in
     let place = found-place c.self.invariant.0 c.args.found (rw (← c.self.view_is) at c.requires.found) (rw (← c.self.view_is) at c.requires.used) in
     let cred : c.lend.result.cred ≡ cred_under s.creds c.args.found.number = same_Some _ _ (same_Some _ _ (sym c.lend.ensures.cred ∙ place)) in

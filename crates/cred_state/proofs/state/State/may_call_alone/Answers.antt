@@ -1,7 +1,7 @@
 use Rattle.std.proofs.Common.{ℕ, Some, sym, ap, ◌∙◌}
 use Rattle.cred_model.specs.Casts.{not_busy}
 use Rattle.cred_model.proofs.Numbers.{current_is}
-use Rattle.cred_cast.specs.Casts.{cast_within}
+use Rattle.cred_cast.specs.Casts.{broadcast_within}
 use Rattle.cred_tables.specs.Kept.{as_parts, state_of}
 use Rattle.cred_state.proofs.Raw.{raw_without, raw_busy, raw_overridden}
 use Rattle.cred_state.proofs.Broadcasts.{busy_by, none_open}
@@ -15,7 +15,7 @@ returns-in_default c = λ call.
 pub unwrap-process-requires : goal.unwrap-process-requires
 unwrap-process-requires c =
     let t = c.self.inside in
-    let s = state_of (as_parts t.tasks t.casts t.files t.holds t.prepared t.dump t.infos) t.master.slots
+    let s = state_of (as_parts t.tasks t.broadcasts t.files t.holds t.prepared t.dump t.infos) t.master.slots
     t.slots in
     let has = rw (← c.self.view_is) at c.in-Some.ensures in
     let u = current_is s c.args.task _ (sym has) in
@@ -24,29 +24,29 @@ unwrap-process-requires c =
 pub returns-in-Some-open_in : goal.returns-in-Some-open_in
 returns-in-Some-open_in c = λ call.
     let t = c.self.inside in
-    let s = state_of (as_parts t.tasks t.casts t.files t.holds t.prepared t.dump t.infos) t.master.slots
+    let s = state_of (as_parts t.tasks t.broadcasts t.files t.holds t.prepared t.dump t.infos) t.master.slots
     t.slots in
     let has = rw (← c.self.view_is) at c.in-Some.ensures in
     let u = current_is s c.args.task _ (sym has) in
     let process = owner_process t.tasks c.args.task c.unwrap-process.result u.owner u.is
     c.unwrap-process.ensures c.process_of.ensures in
-    let busy = busy_by (cast_within t.casts c.unwrap-process.result) (Some c.in-Some-open_in.cast)
+    let busy = busy_by (broadcast_within t.broadcasts c.unwrap-process.result) (Some c.in-Some-open_in.broadcast)
     c.in-Some-open_in.ensures.number in
     rw (← c.self.view_is)
-    (raw_busy s c.args.task call _ (sym has) u.owner u.is c.in-Some-open_in.cast
-    (ap (λ (p : ℕ). not_busy (cast_within t.casts p)) (sym process) ∙ busy))
+    (raw_busy s c.args.task call _ (sym has) u.owner u.is c.in-Some-open_in.broadcast
+    (ap (λ (p : ℕ). not_busy (broadcast_within t.broadcasts p)) (sym process) ∙ busy))
 
 pub returns-in-Some-overridden : goal.returns-in-Some-overridden
 returns-in-Some-overridden c = λ call.
     let t = c.self.inside in
-    let s = state_of (as_parts t.tasks t.casts t.files t.holds t.prepared t.dump t.infos) t.master.slots
+    let s = state_of (as_parts t.tasks t.broadcasts t.files t.holds t.prepared t.dump t.infos) t.master.slots
     t.slots in
     let has = rw (← c.self.view_is) at c.in-Some.ensures in
     let u = current_is s c.args.task _ (sym has) in
     let process = owner_process t.tasks c.args.task c.unwrap-process.result u.owner u.is
     c.unwrap-process.ensures c.process_of.ensures in
-    let idle = ap (cast_within t.casts) (sym process)
-    ∙ none_open _ (cast_within t.casts c.unwrap-process.result) c.in_default-open_in.ensures.number in
+    let idle = ap (broadcast_within t.broadcasts) (sym process)
+    ∙ none_open _ (broadcast_within t.broadcasts c.unwrap-process.result) c.in_default-open_in.ensures.number in
     let over = rw (← c.self.view_is) at c.in-Some-overridden.ensures in
     rw (← c.self.view_is)
     (raw_overridden s c.args.task call _ (sym has) u.owner u.is idle c.in-Some-overridden.depth
@@ -55,14 +55,14 @@ returns-in-Some-overridden c = λ call.
 pub returns : goal.returns
 returns c =
     let t = c.self.inside in
-    let s = state_of (as_parts t.tasks t.casts t.files t.holds t.prepared t.dump t.infos) t.master.slots
+    let s = state_of (as_parts t.tasks t.broadcasts t.files t.holds t.prepared t.dump t.infos) t.master.slots
     t.slots in
     let has = rw (← c.self.view_is) at c.in-Some.ensures in
     let u = current_is s c.args.task _ (sym has) in
     let process = owner_process t.tasks c.args.task c.unwrap-process.result u.owner u.is
     c.unwrap-process.ensures c.process_of.ensures in
-    let idle = ap (cast_within t.casts) (sym process)
-    ∙ none_open _ (cast_within t.casts c.unwrap-process.result) c.in_default-open_in.ensures.number in
+    let idle = ap (broadcast_within t.broadcasts) (sym process)
+    ∙ none_open _ (broadcast_within t.broadcasts c.unwrap-process.result) c.in_default-open_in.ensures.number in
     let own = rw (← c.self.view_is) at c.in_default-overridden.ensures in
     rw (← c.self.view_is)
     (record {

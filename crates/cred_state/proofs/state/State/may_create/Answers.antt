@@ -14,12 +14,12 @@ pub returns-in-Some-begun : goal.returns-in-Some-begun
 returns-in-Some-begun c =
     let s = c.args.self.now.state in
     let u = current_is s c.args.task _ (sym c.in-Some.ensures) in
-    creating_busy s c.args.task c.args.child _ (sym c.in-Some.ensures) u.owner u.is c.args.process c.in-Some-begun.cast c.in-Some-begun.ensures
+    creating_busy s c.args.task c.args.child _ (sym c.in-Some.ensures) u.owner u.is c.args.process c.in-Some-begun.broadcast c.in-Some-begun.ensures
 
 pub returns-then-alive : goal.returns-then-alive
 returns-then-alive c =
     let t = c.self.inside in
-    let s = state_of (as_parts t.tasks t.casts t.files t.holds t.prepared t.dump t.infos) t.master.slots t.slots in
+    let s = state_of (as_parts t.tasks t.broadcasts t.files t.holds t.prepared t.dump t.infos) t.master.slots t.slots in
     let has = rw (← c.self.view_is) at c.in-Some.ensures in
     let u = current_is s c.args.task _ (sym has) in
     let idle = rw (← c.self.view_is) at c.in_default-begun.ensures in
@@ -29,7 +29,7 @@ returns-then-alive c =
 pub returns-in-Some-in_use : goal.returns-in-Some-in_use
 returns-in-Some-in_use c =
     let t = c.self.inside in
-    let s = state_of (as_parts t.tasks t.casts t.files t.holds t.prepared t.dump t.infos) t.master.slots t.slots in
+    let s = state_of (as_parts t.tasks t.broadcasts t.files t.holds t.prepared t.dump t.infos) t.master.slots t.slots in
     let has = rw (← c.self.view_is) at c.in-Some.ensures in
     let u = current_is s c.args.task _ (sym has) in
     let idle = rw (← c.self.view_is) at c.in_default-begun.ensures in
@@ -40,7 +40,7 @@ returns-in-Some-in_use c =
 pub returns-in-Some-overridden : goal.returns-in-Some-overridden
 returns-in-Some-overridden c =
     let t = c.self.inside in
-    let s = state_of (as_parts t.tasks t.casts t.files t.holds t.prepared t.dump t.infos) t.master.slots t.slots in
+    let s = state_of (as_parts t.tasks t.broadcasts t.files t.holds t.prepared t.dump t.infos) t.master.slots t.slots in
     let has = rw (← c.self.view_is) at c.in-Some.ensures in
     let u = current_is s c.args.task _ (sym has) in
     let idle = rw (← c.self.view_is) at c.in_default-begun.ensures in
@@ -54,7 +54,7 @@ returns-in-Some-overridden c =
 pub returns-then-full : goal.returns-then-full
 returns-then-full c =
     let t = c.self.inside in
-    let s = state_of (as_parts t.tasks t.casts t.files t.holds t.prepared t.dump t.infos) t.master.slots t.slots in
+    let s = state_of (as_parts t.tasks t.broadcasts t.files t.holds t.prepared t.dump t.infos) t.master.slots t.slots in
     let has = rw (← c.self.view_is) at c.in-Some.ensures in
     let u = current_is s c.args.task _ (sym has) in
     let idle = rw (← c.self.view_is) at c.in_default-begun.ensures in
@@ -68,7 +68,7 @@ returns-then-full c =
 pub returns : goal.returns
 returns c =
     let t = c.self.inside in
-    let s = state_of (as_parts t.tasks t.casts t.files t.holds t.prepared t.dump t.infos) t.master.slots t.slots in
+    let s = state_of (as_parts t.tasks t.broadcasts t.files t.holds t.prepared t.dump t.infos) t.master.slots t.slots in
     let has = rw (← c.self.view_is) at c.in-Some.ensures in
     let u = current_is s c.args.task _ (sym has) in
     let idle = rw (← c.self.view_is) at c.in_default-begun.ensures in

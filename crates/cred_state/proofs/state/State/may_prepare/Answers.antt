@@ -29,21 +29,21 @@ returns c =
 pub returns-then-not-alive : goal.returns-then-not-alive
 returns-then-not-alive c =
     let t = c.self.inside in
-    let s = state_of (as_parts t.tasks t.casts t.files t.holds t.prepared t.dump t.infos) t.master.slots t.slots in
+    let s = state_of (as_parts t.tasks t.broadcasts t.files t.holds t.prepared t.dump t.infos) t.master.slots t.slots in
     rw (← c.self.view_is) (prepare_no_task s c.args.label c.args.task c.args.hold (none_by_test _ c.alive.result c.alive.ensures c.if-not-alive.true))
 
 pub returns-in-Some : goal.returns-in-Some
 returns-in-Some c =
     let t = c.self.inside in
-    let s = state_of (as_parts t.tasks t.casts t.files t.holds t.prepared t.dump t.infos) t.master.slots t.slots in
+    let s = state_of (as_parts t.tasks t.broadcasts t.files t.holds t.prepared t.dump t.infos) t.master.slots t.slots in
     let owner = present c.args.task t.tasks c.alive.result c.alive.ensures c.if-not-alive.false in
     let busy = rw (← c.self.view_is) at c.in-Some.ensures in
-    rw (← c.self.view_is) (prepare_busy s c.args.label c.args.task c.args.hold owner.0 owner.1 c.in-Some.cast busy)
+    rw (← c.self.view_is) (prepare_busy s c.args.label c.args.task c.args.hold owner.0 owner.1 c.in-Some.broadcast busy)
 
 pub returns-in_default-get : goal.returns-in_default-get
 returns-in_default-get c =
     let t = c.self.inside in
-    let s = state_of (as_parts t.tasks t.casts t.files t.holds t.prepared t.dump t.infos) t.master.slots t.slots in
+    let s = state_of (as_parts t.tasks t.broadcasts t.files t.holds t.prepared t.dump t.infos) t.master.slots t.slots in
     let owner = present c.args.task t.tasks c.alive.result c.alive.ensures c.if-not-alive.false in
     let idle = rw (← c.self.view_is) at c.in_default.ensures in
     rw (← c.self.view_is) (prepare_no_hold s c.args.label c.args.task c.args.hold owner.0 owner.1 idle (no_number _ c.in_default-get.ensures))
@@ -51,7 +51,7 @@ returns-in_default-get c =
 pub returns-then-has_label : goal.returns-then-has_label
 returns-then-has_label c =
     let t = c.self.inside in
-    let s = state_of (as_parts t.tasks t.casts t.files t.holds t.prepared t.dump t.infos) t.master.slots t.slots in
+    let s = state_of (as_parts t.tasks t.broadcasts t.files t.holds t.prepared t.dump t.infos) t.master.slots t.slots in
     let owner = present c.args.task t.tasks c.alive.result c.alive.ensures c.if-not-alive.false in
     let idle = rw (← c.self.view_is) at c.in_default.ensures in
     let base = held_hold _ c.in-Some-get.base c.in-Some-get.ensures in
@@ -61,7 +61,7 @@ returns-then-has_label c =
 pub returns-then-len-ge-PREPARED : goal.returns-then-len-ge-PREPARED
 returns-then-len-ge-PREPARED c =
     let t = c.self.inside in
-    let s = state_of (as_parts t.tasks t.casts t.files t.holds t.prepared t.dump t.infos) t.master.slots t.slots in
+    let s = state_of (as_parts t.tasks t.broadcasts t.files t.holds t.prepared t.dump t.infos) t.master.slots t.slots in
     let owner = present c.args.task t.tasks c.alive.result c.alive.ensures c.if-not-alive.false in
     let idle = rw (← c.self.view_is) at c.in_default.ensures in
     let base = held_hold _ c.in-Some-get.base c.in-Some-get.ensures in

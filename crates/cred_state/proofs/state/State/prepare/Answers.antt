@@ -24,7 +24,7 @@ returns-in_default-clause-ok c =
     (does_same _ _ _ (prepare_full c.self.invariant.0 c.sweep.new.self c.args.label c.args.task c.args.hold
     c.in-Ok.base may
     (none_spare t.slots c.in_ok-reserve.ensures.ok none)
-    (roomy_spare (as_parts t.tasks t.casts t.files t.holds t.prepared t.dump t.infos) t.master.slots t.slots _ _ _ c.in_ok-reserve.ensures.ok
+    (roomy_spare (as_parts t.tasks t.broadcasts t.files t.holds t.prepared t.dump t.infos) t.master.slots t.slots _ _ _ c.in_ok-reserve.ensures.ok
     (c.sweep.ensures ∙ sym (full_swept c.reserve.new.self none)))))
 
 pub claim-requires : goal.claim-requires

@@ -10,7 +10,7 @@ use Rattle.cred_state.proofs.state.State.put_earlier.Goals as goal
 pub invariant_of-self : goal.invariant_of-self
 invariant_of-self c =
     let t = c.self.inside in
-    let s = state_of (as_parts t.tasks t.casts t.files t.holds t.prepared t.dump t.infos) t.master.slots t.slots in
+    let s = state_of (as_parts t.tasks t.broadcasts t.files t.holds t.prepared t.dump t.infos) t.master.slots t.slots in
     let sound = rw (← c.self.view_is) at c.requires.sound in
     let are = rw (← c.self.view_is) at c.requires.out in
     let new = c.take_back.new.self in
@@ -29,7 +29,7 @@ invariant_of-self c =
 pub returns-clause-like : goal.returns-clause-like
 returns-clause-like c =
     let t = c.self.inside in
-    let s = state_of (as_parts t.tasks t.casts t.files t.holds t.prepared t.dump t.infos) t.master.slots t.slots in
+    let s = state_of (as_parts t.tasks t.broadcasts t.files t.holds t.prepared t.dump t.infos) t.master.slots t.slots in
     let sound = rw (← c.self.view_is) at c.requires.sound in
     let are = rw (← c.self.view_is) at c.requires.out in
     let new = c.take_back.new.self in
@@ -48,6 +48,6 @@ returns-clause-like c =
 pub returns-clause-state : goal.returns-clause-state
 returns-clause-state c =
     let t = c.self.inside in
-    let s = state_of (as_parts t.tasks t.casts t.files t.holds t.prepared t.dump t.infos) t.master.slots t.slots in
+    let s = state_of (as_parts t.tasks t.broadcasts t.files t.holds t.prepared t.dump t.infos) t.master.slots t.slots in
     rw (← c.self.view_is)
     (ap (λ (ss : List ℕ). record s { creds = creds_in c.take_back.new.self.slots ss }) (sym (slots-creds_in t.master.slots t.slots.sealed)))

@@ -11,7 +11,7 @@ invariant_of-self c = (kept_infos c.self.invariant.0 c.replace.new.self, c.self.
 pub returns-in-Ok-clause-ok : goal.returns-in-Ok-clause-ok
 returns-in-Ok-clause-ok c = λ hold rule cred file held there by.
     let t = c.self.inside in
-    let s = state_of (as_parts t.tasks t.casts t.files t.holds t.prepared t.dump t.infos) t.master.slots t.slots in
+    let s = state_of (as_parts t.tasks t.broadcasts t.files t.holds t.prepared t.dump t.infos) t.master.slots t.slots in
     let holds = rw (← c.self.view_is) at held in
     let stands = rw (← c.self.view_is) at there in
     let made = rw c.in-Ok.is at by in

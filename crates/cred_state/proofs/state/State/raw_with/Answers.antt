@@ -21,7 +21,7 @@ returns-in_default-clause-ok c = λ call given.
     let may = rw (← c.self.view_is) at c.requires.may in
     let rule = rw (← c.self.view_is) at given in
     let none = sym c.in_default.ensures in
-    let parts = as_parts t.tasks t.casts t.files t.holds t.prepared t.dump t.infos in
+    let parts = as_parts t.tasks t.broadcasts t.files t.holds t.prepared t.dump t.infos in
     let s = state_of parts t.master.slots t.slots in
     let new = changed (cred_under s.creds c.args.now.number) c.args.parts.now c.args.groups.now in
     rw (← c.self.view_is)
@@ -38,7 +38,7 @@ renew_in-requires c =
 pub set_like-requires-clause-sealed : goal.set_like-requires-clause-sealed
 set_like-requires-clause-sealed c =
     let t = c.self.inside in
-    let s = state_of (as_parts t.tasks t.casts t.files t.holds t.prepared t.dump t.infos) t.master.slots t.slots in
+    let s = state_of (as_parts t.tasks t.broadcasts t.files t.holds t.prepared t.dump t.infos) t.master.slots t.slots in
     let may = rw (← c.self.view_is) at c.requires.may in
     found-sealed c.self.invariant.0 c.args.now (is_found s.creds (λ (t : Task). t.current) (task_of s c.args.task) _ may.has)
     (current-in_use s c.args.task _ may.has)
@@ -46,7 +46,7 @@ set_like-requires-clause-sealed c =
 pub set_like-requires-clause-apart : goal.set_like-requires-clause-apart
 set_like-requires-clause-apart c =
     let t = c.self.inside in
-    let s = state_of (as_parts t.tasks t.casts t.files t.holds t.prepared t.dump t.infos) t.master.slots t.slots in
+    let s = state_of (as_parts t.tasks t.broadcasts t.files t.holds t.prepared t.dump t.infos) t.master.slots t.slots in
     let may = rw (← c.self.view_is) at c.requires.may in
     let seals = seals_spare {t = t.slots} c.in_ok-reserve.ensures.ok c.seal_next-number.ensures in
     stands_apart seals c.args.now.number c.args.now.slot
@@ -57,7 +57,7 @@ set_like-requires-clause-apart c =
 pub set_like-requires-clause-valid : goal.set_like-requires-clause-valid
 set_like-requires-clause-valid c =
     let t = c.self.inside in
-    let s = state_of (as_parts t.tasks t.casts t.files t.holds t.prepared t.dump t.infos) t.master.slots t.slots in
+    let s = state_of (as_parts t.tasks t.broadcasts t.files t.holds t.prepared t.dump t.infos) t.master.slots t.slots in
     let may = rw (← c.self.view_is) at c.requires.may in
     let there = is_found s.creds (λ (t : Task). t.current) (task_of s c.args.task) _ may.has in
     λ x at. rw (found-there t.master.slots t.slots.sealed c.args.now there x at) (rw (← c.self.view_is) at c.requires.valid)
@@ -86,7 +86,7 @@ invariant_of-self-2 c =
     let may = rw (← c.self.view_is) at c.requires.may in
     let sound = rw (← c.self.view_is) at c.requires.sound in
     let t = c.self.inside in
-    let s = state_of (as_parts t.tasks t.casts t.files t.holds t.prepared t.dump t.infos) t.master.slots t.slots in
+    let s = state_of (as_parts t.tasks t.broadcasts t.files t.holds t.prepared t.dump t.infos) t.master.slots t.slots in
     let new = changed (cred_under s.creds c.args.now.number) c.args.parts.now c.args.groups.now in
     let made =
     c.set_like.ensures.made _
@@ -95,7 +95,7 @@ invariant_of-self-2 c =
     rw (c.set_current.ensures.tasks, made) (
       replaced_kept c.self.invariant.0 c.drop_later.new.self c.args.task _ new may.has c.set_like.ensures.long
           (seals_spare c.in_ok-reserve.ensures.ok c.seal_next-number.ensures) sound.tasks (drops c.drop_later.ensures.held c.drop_later.ensures.table)
-          t.casts c.renew_in.new.dump,
+          t.broadcasts c.renew_in.new.dump,
       put_free c.self.inside.prepared c.self.inside.master.loans c.self.inside.master.slots c.in-Some.slot (Some new)
           (free_apart c.self.invariant.0 c.in-Some.slot (some_spare c.self.inside.slots c.in_ok-reserve.ensures.ok (sym c.in-Some.ensures))) c.self.invariant.1,
     )
@@ -106,7 +106,7 @@ returns-clause-ok c = λ call given.
     let may = rw (← c.self.view_is) at c.requires.may in
     let sound = rw (← c.self.view_is) at c.requires.sound in
     let rule = rw (← c.self.view_is) at given in
-    let s = state_of (as_parts t.tasks t.casts t.files t.holds t.prepared t.dump t.infos) t.master.slots t.slots in
+    let s = state_of (as_parts t.tasks t.broadcasts t.files t.holds t.prepared t.dump t.infos) t.master.slots t.slots in
     let new = changed (cred_under s.creds c.args.now.number) c.args.parts.now c.args.groups.now in
     let made =
     c.set_like.ensures.made _
@@ -122,7 +122,7 @@ returns-clause-ok c = λ call given.
 pub returns-clause-words : goal.returns-clause-words
 returns-clause-words c =
     let t = c.self.inside in
-    let s = state_of (as_parts t.tasks t.casts t.files t.holds t.prepared t.dump t.infos) t.master.slots t.slots in
+    let s = state_of (as_parts t.tasks t.broadcasts t.files t.holds t.prepared t.dump t.infos) t.master.slots t.slots in
     let may = rw (← c.self.view_is) at c.requires.may in
     let made =
     c.set_like.ensures.made _

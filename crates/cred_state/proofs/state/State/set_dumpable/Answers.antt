@@ -6,14 +6,14 @@ use Rattle.cred_state.proofs.state.State.set_dumpable.Goals as goal
 pub returns-in_default-clause-made : goal.returns-in_default-clause-made
 returns-in_default-clause-made c =
     let t = c.self.inside in
-    let s = state_of (as_parts t.tasks t.casts t.files t.holds t.prepared t.dump t.infos) t.master.slots
+    let s = state_of (as_parts t.tasks t.broadcasts t.files t.holds t.prepared t.dump t.infos) t.master.slots
     t.slots in
     rw (← c.self.view_is) (dumpable_none s c.args.task c.args.value c.in_default.ensures)
 
 pub returns-in_default-flag_of_value-clause-made : goal.returns-in_default-flag_of_value-clause-made
 returns-in_default-flag_of_value-clause-made c =
     let t = c.self.inside in
-    let s = state_of (as_parts t.tasks t.casts t.files t.holds t.prepared t.dump t.infos) t.master.slots
+    let s = state_of (as_parts t.tasks t.broadcasts t.files t.holds t.prepared t.dump t.infos) t.master.slots
     t.slots in
     rw (← c.self.view_is)
     (dumpable_invalid s c.args.task c.args.value c.in-Some.process c.in-Some.ensures
@@ -21,12 +21,12 @@ returns-in_default-flag_of_value-clause-made c =
 
 pub invariant_of-self : goal.invariant_of-self
 invariant_of-self c =
-    (kept_beside c.self.invariant.0 c.self.inside.casts c.set.new.self, c.self.invariant.1)
+    (kept_beside c.self.invariant.0 c.self.inside.broadcasts c.set.new.self, c.self.invariant.1)
 
 pub returns-clause-made : goal.returns-clause-made
 returns-clause-made c =
     let t = c.self.inside in
-    let s = state_of (as_parts t.tasks t.casts t.files t.holds t.prepared t.dump t.infos) t.master.slots
+    let s = state_of (as_parts t.tasks t.broadcasts t.files t.holds t.prepared t.dump t.infos) t.master.slots
     t.slots in
     rw (← c.self.view_is, c.set.ensures)
     (dumpable_set s c.args.task c.args.value c.in-Some.process c.in-Some-flag_of_value.dumpable

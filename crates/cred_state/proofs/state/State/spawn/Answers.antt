@@ -29,7 +29,7 @@ spawn_in-requires-clause-room c =
 pub spawn_in-requires-clause-nowhere : goal.spawn_in-requires-clause-nowhere
 spawn_in-requires-clause-nowhere c =
     let t = c.self.inside in
-    let s = state_of (as_parts t.tasks t.casts t.files t.holds t.prepared t.dump t.infos) t.master.slots t.slots in
+    let s = state_of (as_parts t.tasks t.broadcasts t.files t.holds t.prepared t.dump t.infos) t.master.slots t.slots in
     let may = rw (← c.self.view_is) at c.in-Ok.ensures in
     let sound = rw (← c.self.view_is) at c.requires in
     dead_waits_nowhere s c.args.child sound may.0.new
@@ -44,19 +44,19 @@ invariant_of-self c = rw c.in_err-reserve.ensures.err c.self.invariant
 
 pub invariant_of-self-in_err-spawn_in : goal.invariant_of-self-in_err-spawn_in
 invariant_of-self-in_err-spawn_in c =
-    rw (c.in_err-spawn_in.ensures.no_tasks, c.in_err-spawn_in.ensures.no_casts) (kept_spare c.self.invariant.0 c.in_ok-reserve.ensures.ok, c.self.invariant.1)
+    rw (c.in_err-spawn_in.ensures.no_tasks, c.in_err-spawn_in.ensures.no_broadcasts) (kept_spare c.self.invariant.0 c.in_ok-reserve.ensures.ok, c.self.invariant.1)
 
 pub invariant_of-self-2 : goal.invariant_of-self-2
 invariant_of-self-2 c =
     let t = c.self.inside in
-    let s = state_of (as_parts t.tasks t.casts t.files t.holds t.prepared t.dump t.infos) t.master.slots t.slots in
+    let s = state_of (as_parts t.tasks t.broadcasts t.files t.holds t.prepared t.dump t.infos) t.master.slots t.slots in
     let may = rw (← c.self.view_is) at c.in-Ok.ensures in
     let u = current_is s c.args.task _ may.0.has in
     let grown = c.in_ok-spawn_in.ensures.tasks
     ∙ ap (λ (found : Option Task). option_map_or (λ o. t.tasks ++ first_task c.args.child o.process o.current ∷ []) found t.tasks) u.is in (
       kept_child c.self.invariant.0 c.spawn_in.new.tasks c.args.child u.owner.process u.owner grown u.number c.in_ok-reserve.ensures.ok c.add.ensures.held
           c.add.ensures.table
-          (current-held c.self.invariant.0 c.args.task _ may.0.has) c.spawn_in.new.casts,
+          (current-held c.self.invariant.0 c.args.task _ may.0.has) c.spawn_in.new.broadcasts,
       c.self.invariant.1,
     )
 
@@ -65,5 +65,5 @@ returns-clause-ok c =
     let may = rw (← c.self.view_is) at c.in-Ok.ensures in
     let t = c.self.inside in
     rw (← c.self.view_is)
-    (spawn_done (as_parts t.tasks t.casts t.files t.holds t.prepared t.dump t.infos) t.master.slots t.slots c.in_ok-reserve.ensures.ok c.add.ensures.table
-    c.args.task c.args.child _ may.0 c.in_ok-spawn_in.ensures.tasks c.in_ok-spawn_in.ensures.casts)
+    (spawn_done (as_parts t.tasks t.broadcasts t.files t.holds t.prepared t.dump t.infos) t.master.slots t.slots c.in_ok-reserve.ensures.ok c.add.ensures.table
+    c.args.task c.args.child _ may.0 c.in_ok-spawn_in.ensures.tasks c.in_ok-spawn_in.ensures.broadcasts)

@@ -21,7 +21,7 @@ returns-in_default-clause-ok c = λ user group ns root is.
     rw (← c.self.view_is)
     (init_full c.self.invariant.0 c.sweep.new.self c.args.number c.args.process idle new room user group ns root
     (none_spare t.slots c.in_ok-reserve.ensures.ok none)
-    (roomy_spare (as_parts t.tasks t.casts t.files t.holds t.prepared t.dump t.infos) t.master.slots t.slots _ _ _ c.in_ok-reserve.ensures.ok
+    (roomy_spare (as_parts t.tasks t.broadcasts t.files t.holds t.prepared t.dump t.infos) t.master.slots t.slots _ _ _ c.in_ok-reserve.ensures.ok
     (c.sweep.ensures ∙ sym (full_swept c.reserve.new.self none))))
 
 pub start_in-requires-clause-new : goal.start_in-requires-clause-new

@@ -20,7 +20,7 @@ invariant_of-self-in_err-take c = rw c.in_err-take.ensures.err (kept_spare c.sel
 pub invariant_of-self-2 : goal.invariant_of-self-2
 invariant_of-self-2 c =
     let t = c.self.inside in
-    let s = state_of (as_parts t.tasks t.casts t.files t.holds t.prepared t.dump t.infos) t.master.slots t.slots in
+    let s = state_of (as_parts t.tasks t.broadcasts t.files t.holds t.prepared t.dump t.infos) t.master.slots t.slots in
     let used = rw (← c.self.view_is) at c.requires in
     rw c.in_ok-take.ensures.ok (
       kept_more c.self.invariant.0 c.in_ok-reserve.ensures.ok c.add.ensures.held c.add.ensures.table (in_use-hold s _) refl

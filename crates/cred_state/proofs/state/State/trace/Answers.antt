@@ -33,14 +33,14 @@ read_seen-seen-requires-clause-used c =
 pub returns-in_default-clause-made : goal.returns-in_default-clause-made
 returns-in_default-clause-made c =
     let t = c.self.inside in
-    let s = state_of (as_parts t.tasks t.casts t.files t.holds t.prepared t.dump t.infos) t.master.slots
+    let s = state_of (as_parts t.tasks t.broadcasts t.files t.holds t.prepared t.dump t.infos) t.master.slots
     t.slots in
     rw (← c.self.view_is) (trace_no_sender c.args.script.now s c.args.from c.args.hold c.args.to c.args.target c.args.mode c.in_default.ensures)
 
 pub returns-in_default-process_of-clause-made : goal.returns-in_default-process_of-clause-made
 returns-in_default-process_of-clause-made c =
     let t = c.self.inside in
-    let s = state_of (as_parts t.tasks t.casts t.files t.holds t.prepared t.dump t.infos) t.master.slots
+    let s = state_of (as_parts t.tasks t.broadcasts t.files t.holds t.prepared t.dump t.infos) t.master.slots
     t.slots in
     rw (← c.self.view_is)
     (trace_no_receiver c.args.script.now s c.args.from c.args.hold c.args.to c.args.target c.args.mode
@@ -49,7 +49,7 @@ returns-in_default-process_of-clause-made c =
 pub returns-in_default-held-clause-made : goal.returns-in_default-held-clause-made
 returns-in_default-held-clause-made c =
     let t = c.self.inside in
-    let s = state_of (as_parts t.tasks t.casts t.files t.holds t.prepared t.dump t.infos) t.master.slots
+    let s = state_of (as_parts t.tasks t.broadcasts t.files t.holds t.prepared t.dump t.infos) t.master.slots
     t.slots in
     rw (← c.self.view_is)
     (trace_no_own c.args.script.now s c.args.from c.args.hold c.args.to c.args.target c.args.mode
@@ -59,7 +59,7 @@ returns-in_default-held-clause-made c =
 pub returns-in_default-held-2-clause-made : goal.returns-in_default-held-2-clause-made
 returns-in_default-held-2-clause-made c =
     let t = c.self.inside in
-    let s = state_of (as_parts t.tasks t.casts t.files t.holds t.prepared t.dump t.infos) t.master.slots
+    let s = state_of (as_parts t.tasks t.broadcasts t.files t.holds t.prepared t.dump t.infos) t.master.slots
     t.slots in
     rw (← c.self.view_is)
     (trace_no_other c.args.script.now s c.args.from c.args.hold c.args.to c.args.target c.args.mode
@@ -70,7 +70,7 @@ returns-in_default-held-2-clause-made c =
 pub returns-then-may_trace_by-clause-made : goal.returns-then-may_trace_by-clause-made
 returns-then-may_trace_by-clause-made c =
     let t = c.self.inside in
-    let s = state_of (as_parts t.tasks t.casts t.files t.holds t.prepared t.dump t.infos) t.master.slots
+    let s = state_of (as_parts t.tasks t.broadcasts t.files t.holds t.prepared t.dump t.infos) t.master.slots
     t.slots in
     let own = rw (← c.self.view_is) at (sym c.in-Some-held.ensures) in
     let other = rw (← c.self.view_is) at (sym c.in-Some-held-2.ensures) in
@@ -91,7 +91,7 @@ returns-then-may_trace_by-clause-made c =
 pub returns-else-may_trace_by-clause-made : goal.returns-else-may_trace_by-clause-made
 returns-else-may_trace_by-clause-made c =
     let t = c.self.inside in
-    let s = state_of (as_parts t.tasks t.casts t.files t.holds t.prepared t.dump t.infos) t.master.slots
+    let s = state_of (as_parts t.tasks t.broadcasts t.files t.holds t.prepared t.dump t.infos) t.master.slots
     t.slots in
     let own = rw (← c.self.view_is) at (sym c.in-Some-held.ensures) in
     let other = rw (← c.self.view_is) at (sym c.in-Some-held-2.ensures) in

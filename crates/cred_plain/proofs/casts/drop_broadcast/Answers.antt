@@ -1,7 +1,7 @@
 use Rattle.std.proofs.Common.{◌==◌, not, rules, tests}
 use Rattle.std.proofs.lemmas.Fn.{filter_same}
 use Rattle.cred_model.specs.State.{Broadcast}
-use Rattle.cred_plain.proofs.casts.drop_cast.Goals as goal
+use Rattle.cred_plain.proofs.casts.drop_broadcast.Goals as goal
 
 pub returns : goal.returns
 returns c =
