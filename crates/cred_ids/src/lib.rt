@@ -3,14 +3,14 @@
 #![tactic(auto)]
 
 pub mod arg;
-pub mod bytes;
 pub mod groups;
 pub mod id;
+pub mod items;
 pub mod limits;
 pub mod memory;
 
 pub use arg::Arg;
-pub use bytes::Bytes;
 pub use groups::{Groups, GroupsRefusal};
 pub use id::{Id, Ids4, Kind};
+pub use items::{Bytes, Items};
 pub use memory::NoMemory;

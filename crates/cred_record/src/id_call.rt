@@ -1,8 +1,11 @@
 //! The calls that set ids.
 ghost use Rattle.std.specs.Prelude.{◌≡◌, IfOk, OnErr};
 
-use crate::list::IdList;
-use cred_ids::{Arg, NoMemory};
+use cred_ids::{Arg, Id, Items, NoMemory};
+
+/// A list of ids, in the order in which they were given, as setgroups(2) is handed one. Contracts
+/// see the list of their numbers.
+pub type IdList = Items<Id>;
 
 /// A call that sets the real, effective or saved ids of a task, or its supplementary groups.
 #[derive(Clone, Drop, Debug)]

@@ -93,8 +93,8 @@ fn a_copy_has_its_list(rt: HostRuntime) -> Result<(), Fail> {
     let event = copied_event(rt.alloc())?;
     let answer = copied_answer(rt.alloc())?;
     let bytes = copied_bytes(rt.alloc())?;
-    assert!(rt; event.as_str() == "Some(SetGroups(IdList { ids: [Id(30), Id(10), Id(20)] }))");
-    assert!(rt; answer.as_str() == "Some(IdList { ids: [Id(30), Id(10), Id(20)] })");
+    assert!(rt; event.as_str() == "Some(SetGroups(Items { items: [Id(30), Id(10), Id(20)] }))");
+    assert!(rt; answer.as_str() == "Some(Items { items: [Id(30), Id(10), Id(20)] })");
     assert!(rt; bytes.as_slice() == [1, 0, 255].as_slice());
     Ok(())
 }

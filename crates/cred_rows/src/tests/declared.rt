@@ -23,7 +23,7 @@ const ROWS: [(Asked, &str); 15] = [
     (
         Asked::File(0),
         "Some(FileInfo { kind: Regular, owner: Id(1), group: Id(2), mode: 2536, nosuid: true, \
-         attr: Some(Bytes { items: [0, 255] }) })",
+         attr: Some(Items { items: [0, 255] }) })",
     ),
     (
         Asked::File(1),

@@ -68,7 +68,7 @@ const ROWS: [Row; 34] = [
     ("commit h6", &["0 One(Commit 6)"]),
     (
         "t1 raw setgroups 30 10",
-        &["0 One(Raw 1 SetGroups(IdList { ids: [Id(30), Id(10)] }))"],
+        &["0 One(Raw 1 SetGroups(Items { items: [Id(30), Id(10)] }))"],
     ),
     (
         // A record of version 3 about its own task.
@@ -94,7 +94,7 @@ const ROWS: [Row; 34] = [
             "0 Nothing",
             "0 OnFile 3 Chown 0 Keep Set(Id(5))",
             "0 OnFile 4 Chmod 0 1517",
-            "0 OnFile 5 SetAttr 0 Some(Bytes { items: [0, 255] })",
+            "0 OnFile 5 SetAttr 0 Some(Items { items: [0, 255] })",
             "0 OnFile 6 SetAttr 0 None",
             "0 OnFile 7 Stat 0",
         ],
