@@ -1,5 +1,5 @@
 use Rattle.std.proofs.Common.{ap}
-use Rattle.std.proofs.lemmas.Result.{MatchResult-weaker}
+use Rattle.std.proofs.lemmas.Result.{IfOk-weaker, MatchResult-weaker}
 use Rattle.cred_said.specs.Scripts.{NoJournal}
 use Rattle.cred_said.proofs.Runs.{leaves_report}
 use Rattle.cred_said.proofs.input.read_script.Goals as goal

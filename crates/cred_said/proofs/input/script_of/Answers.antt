@@ -6,7 +6,7 @@ use Rattle.cred_said.proofs.input.script_of.Goals as goal
 
 pub returns-in-Ok-clause-script : goal.returns-in-Ok-clause-script
 returns-in-Ok-clause-script g c = record {
-  within = record { bytes = c.requires; lines = omega arith };
+  within = record { bytes = c.requires.within; lines = omega arith };
   few = omega (arith, c.in-Ok.ensures.lines);
   read = c.in-Ok.ensures.given;
   setup = c.in-Ok.ensures.setup;
@@ -17,6 +17,6 @@ tell_said-requires g c = IfOk-weaker c.bad_line.result _ _ (λ s is. refusal_who
 
 pub returns-in-Err-clause-refused : goal.returns-in-Err-clause-refused
 returns-in-Err-clause-refused g c =
-    let within : IsWithinLimits c.args.bytes.now = record { bytes = c.requires; lines = omega arith } in
+    let within : IsWithinLimits c.args.bytes.now = record { bytes = c.requires.within; lines = omega arith } in
     ran_refused c.args.bytes.now c.in-Err.refusal c.bad_line.result c.tell_said.result _ _ _ within c.in-Err.ensures.given
     c.bad_line.ensures c.tell_said.ensures.told
