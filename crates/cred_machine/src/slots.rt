@@ -3,7 +3,7 @@ ghost use Rattle.std.specs.Prelude.{◌≡◌, ℕ, ◌+◌, ◌<◌, ◌≤◌,
 ghost use Rattle.std.specs.Prelude.{find, is_some, length, map, not, if◌then◌else◌};
 ghost use Rattle.std.specs.Prelude.{IfOk, IfSome, IsOk, OnOk, OnErr, vec_capacity, vec_len};
 ghost use Rattle.std.specs.List.{flat_map, list_any};
-ghost use Rattle.cred_ids.specs.Limits.{SLOTS};
+ghost use Rattle.cred_ids.specs.Limits.{SLOTS, slots};
 ghost use Rattle.cred_event.specs.declared.answer.Answer.TheVariants.{TableFull};
 ghost use Rattle.cred_model.specs.Ends.{left_by};
 ghost use Rattle.cred_model.specs.Slots as model;
@@ -105,7 +105,7 @@ impl Marks {
 
     /// The least slot that isn't marked. What is below it isn't looked at the next time.
     pub fn first_clear(&mut self) -> Option<u32>
-        ensures slot { result ≡ find (λ slot. not (is_marked self.old slot)) model.slots }
+        ensures slot { result ≡ find (λ slot. not (is_marked self.old slot)) slots }
         ensures marks { self.new ≡ self.old }
     {
         self.marked_below = clear_from(&self.marks, self.marked_below);

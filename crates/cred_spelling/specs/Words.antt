@@ -4,6 +4,7 @@ use Rattle.std.specs.Prelude.{ℕ, not, ◌==◌, Bool, List, [], ◌∷◌, fil
 use Rattle.std.specs.Prelude.{Err, ok_or, if◌then◌else◌}
 use Rattle.std.specs.declared.option.Option.{Option}
 use Rattle.std.specs.List.{slice_split}
+use Rattle.cred_ids.specs.Tests.{◌>>=◌}
 use Rattle.cred_spelling.specs.declared.reason.Reason.{Reason}
 use Rattle.cred_spelling.specs.declared.reason.Reason.TheVariants.{Word, Count}
 use Rattle.cred_spelling.specs.Spellings.{is_name}

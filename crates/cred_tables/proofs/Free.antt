@@ -5,6 +5,7 @@ use Rattle.std.specs.List.{list_any, count_by}
 use Rattle.std.specs.Option.{option_map, option_map_or}
 use Rattle.std.proofs.lemmas.List.Folds.{list_any-append}
 use Rattle.std.proofs.lemmas.Option.{slice_get-map}
+use Rattle.cred_ids.specs.Limits.{slots}
 use Rattle.cred_model.specs.State.{State, SealedCred}
 use Rattle.cred_model.specs.Slots as model
 use Rattle.cred_model.specs.Slots.{in_use, kept}
@@ -44,14 +45,9 @@ live-same s t is slot =
     ∙ any-same stands each (in_use s ++ s.deferred) (λ n. stands-same s t is slot n) in
     ap (λ b. b || is_kept_in t slot) same ∙ ap (λ b. list_any each (in_use s ++ s.deferred) || b) (is.counted.keeps slot)
 
-same_slots : table.slots ≡ model.slots
-unfolding table.slots model.slots
-same_slots = refl
-
 least_free-same : (s : State) (t : Table) → IsTable s t → table.least_free_in t ≡ model.least_free s
 least_free-same s t is =
-    find-same (λ slot. not (table.is_live_in t slot)) (λ slot. not (model.is_live s slot)) table.slots (λ slot. ap not (live-same s t is slot))
-    ∙ ap (λ ss. find (λ slot. not (model.is_live s slot)) ss) same_slots
+    find-same (λ slot. not (table.is_live_in t slot)) (λ slot. not (model.is_live s slot)) slots (λ slot. ap not (live-same s t is slot))
 
 room_by : (s : State) (test : Bool) → cond test s (model.swept s) ≡ record s { deferred = cond test s.deferred [] }
 room_by s true = refl

@@ -3,7 +3,7 @@ use Rattle.std.proofs.Common.{◌≡◌, ℕ, List, [], Some, None, false, sym, 
 use Rattle.atomic_table.specs.Table.{Allows, Splits, Joins}
 use Rattle.cred_turn.specs.declared.numbers.Numbers.{Numbers}
 use Rattle.cred_turn.specs.declared.view.Row.{Row}
-use Rattle.cred_turn.specs.declared.view.Lent.{Lent}
+use Rattle.cred_turn.specs.declared.view.LentPass.{LentPass}
 use Rattle.cred_turn.specs.declared.view.View.{View}
 use Rattle.cred_turn.specs.declared.view.View.TheVariants.{Roll, Pass, Spent}
 use Rattle.cred_turn.specs.Rows.{HasRow, row_of}
@@ -19,20 +19,20 @@ lends_as id me rows lane n z is here home =
     let P : ℕ × Held → Type 0 = λ x. Splits Kept x.0 x.1.0 (after_lending_pass lane n x.1.0) (pass_of lane n) in
     subst P (λ i. (sym z i, sym is i)) (lends rows lane n here home)
 
-pub returns_as : (id other : ℕ) (me them : Held) (rows : List Row) (p : Lent) → id ≡ 0 → me ≡ held (Roll rows None) → them ≡ held (Pass p)
+pub returns_as : (id other : ℕ) (me them : Held) (rows : List Row) (p : LentPass) → id ≡ 0 → me ≡ held (Roll rows None) → them ≡ held (Pass p)
     → Joins Kept id me.0 other them.0 (after_return_of_pass me.0 them.0) Spent
 returns_as id other me them rows p z is they =
     let P : ℕ × Held × Held → Type 0 = λ x. Joins Kept x.0 x.1.0 other x.2.0 (after_return_of_pass x.1.0 x.2.0) Spent in
     subst P (λ i. (sym z i, sym is i, sym they i)) (returns rows other p)
 
-pub learns_as : (id : ℕ) (me : Held) (rows : List Row) (p : Lent) (n : ℕ) → id ≡ 0 → me ≡ held (Roll rows (Some p))
+pub learns_as : (id : ℕ) (me : Held) (rows : List Row) (p : LentPass) (n : ℕ) → id ≡ 0 → me ≡ held (Roll rows (Some p))
     → Allows Kept n id me 0 (λ m. m) (λ _ w. LearnedPass me.0 w.0 × (w.1 ≡ me.1))
 learns_as id me rows p n z is =
     let P : ℕ × Held → Type 0 = λ x. Allows Kept n x.0 x.1 0 (λ m. m) (λ _ w. LearnedPass x.1.0 w.0 × (w.1 ≡ x.1.1)) in
     subst P (λ i. (sym z i, sym is i)) (learns rows p n)
 
 -- the roll's view after a return
-pub came_back : (me them : Held) (rows : List Row) (p : Lent) → me ≡ held (Roll rows None) → them ≡ held (Pass p)
+pub came_back : (me them : Held) (rows : List Row) (p : LentPass) → me ≡ held (Roll rows None) → them ≡ held (Pass p)
     → (let back : Held = (after_return_of_pass me.0 them.0, me.1) in back) ≡ held (Roll rows (Some p))
 came_back me them rows p is they =
     let R : Held → Held → Held = λ v u. (after_return_of_pass v.0 u.0, v.1) in

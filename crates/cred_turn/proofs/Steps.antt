@@ -7,7 +7,7 @@ use lib.ListN.{get_elem?}
 use Rattle.atomic_table.specs.Table.{State, Allows, Splits, Joins, keeps}
 use Rattle.cred_turn.specs.declared.numbers.Numbers.{Numbers}
 use Rattle.cred_turn.specs.declared.view.Row.{Row}
-use Rattle.cred_turn.specs.declared.view.Lent.{Lent}
+use Rattle.cred_turn.specs.declared.view.LentPass.{LentPass}
 use Rattle.cred_turn.specs.declared.view.View.{View}
 use Rattle.cred_turn.specs.declared.view.View.TheVariants.{Roll, Pass, Spent}
 use Rattle.cred_turn.specs.Rows.{home_row, lent_row, HasRow, row_of, with_row}
@@ -28,13 +28,13 @@ pub opens : (lanes : ℕ) → PassRuleHolds (0 ∷ []) (first_roll lanes ∷ [])
 opens lanes = (_, None, [], record { word = refl; views_are = refl; one_roll = tt; of_rows = tt; apart = tt })
 
 -- The parts of the rule at a seat that has the roll's view
-others_kept : (words : List ℕ) (views : List View) (rows : List Row) (kept : Option Lent) → get_elem? views 0 ≡ some (Roll rows kept)
+others_kept : (words : List ℕ) (views : List View) (rows : List Row) (kept : Option LentPass) → get_elem? views 0 ≡ some (Roll rows kept)
     → PassRuleHolds words views → (others : List View) × KeepsPasses words views rows kept others
 others_kept words views rows kept at (rows', kept', others, k) =
     let whole : Roll rows' kept' ≡ Roll rows kept = some-injective _ _ (ap (λ (vs : List View). get_elem? vs 0) (sym k.views_are) ∙ at) in
     let same : rows' ≡ rows = cc in
     let aside' : kept' ≡ kept = cc in
-    (others, subst (λ (x : List Row × Option Lent). KeepsPasses words views x.0 x.1 others) (λ i. (same i, aside' i)) k)
+    (others, subst (λ (x : List Row × Option LentPass). KeepsPasses words views x.0 x.1 others) (λ i. (same i, aside' i)) k)
 
 -- 1. Lend a pass
 
@@ -44,7 +44,7 @@ lends rows lane n here home s h at =
     let f = others_kept s.words s.views rows None at h in
     let k = f.1 in
     let now : List Row = with_row rows lane (lent_row n) in
-    let p : Lent = lent_pass lane n in
+    let p : LentPass = lent_pass lane n in
     let others : AllByRecursion (Other p) (passes f.0) = all_then (IsOfRow rows) (Other p) (passes f.0) (λ q. home_is_nobodys rows lane q home) k.of_rows in
     let old : AllByRecursion (IsOfRow now) (passes f.0) =
     all_both (IsOfRow rows) (Other p) (IsOfRow now) (passes f.0) (λ q. row_stays rows lane (lent_row n) q here) k.of_rows others in (
@@ -62,7 +62,7 @@ lends rows lane n here home s h at =
 
 -- 2. Return a pass
 
-pub returns : (rows : List Row) (other : ℕ) (p : Lent)
+pub returns : (rows : List Row) (other : ℕ) (p : LentPass)
     → Joins {S = Unit {0}} Kept 0 (Roll rows None) other (Pass p) (after_return_of_pass (Roll rows None) (Pass p)) Spent
 returns rows zero p s h at apart there = absurd (apart refl)
 returns rows (suc j) p s h at apart there =
@@ -84,7 +84,7 @@ returns rows (suc j) p s h at apart there =
 
 -- 3. The load after a return
 
-pub learns : (rows : List Row) (p : Lent) (slots : ℕ)
+pub learns : (rows : List Row) (p : LentPass) (slots : ℕ)
     → Allows {S = Unit {0}} Kept slots 0 (Roll rows (Some p), []) 0 (λ n. n) (λ _ w. LearnedPass (Roll rows (Some p)) w.0 × (w.1 ≡ []))
 learns rows p slots s h homes at range =
     let f = others_kept s.words s.views rows (Some p) at h in

@@ -4,22 +4,22 @@ use Rattle.std.specs.List.{AllByRecursion}
 use Rattle.cred_turn.specs.Rows.{fresh, home_row, lent_row, HasRow, row_of, with_row}
 use Rattle.cred_turn.specs.declared.numbers.Numbers.{Numbers}
 use Rattle.cred_turn.specs.declared.view.Row.{Row}
-use Rattle.cred_turn.specs.declared.view.Lent.{Lent}
+use Rattle.cred_turn.specs.declared.view.LentPass.{LentPass}
 use Rattle.cred_turn.specs.declared.view.View.{View}
 use Rattle.cred_turn.specs.declared.view.View.TheVariants.{Roll, Pass, Spent}
 
-abbrev pub lent_pass : ℕ → Numbers → Lent
+abbrev pub lent_pass : ℕ → Numbers → LentPass
 lent_pass lane numbers = record { lane = lane; numbers = numbers }
 
 -- the passes among the views
-abbrev pub passes : List View → List Lent
+abbrev pub passes : List View → List LentPass
 passes [] = []
 passes (Roll rows kept ∷ vs) = passes vs
 passes (Pass p ∷ vs) = p ∷ passes vs
 passes (Spent ∷ vs) = passes vs
 
 -- the pass kept aside, as a view
-abbrev pub pass_aside : Option Lent → View
+abbrev pub pass_aside : Option LentPass → View
 pass_aside None = Spent
 pass_aside (Some p) = Pass p
 
@@ -30,11 +30,11 @@ IsNoRoll (Pass p) = ⊤
 IsNoRoll Spent = ⊤
 
 -- the pass's lane has a row, which is lent and has the pass's numbers
-abbrev pub IsOfRow : List Row → Lent → Type 0
+abbrev pub IsOfRow : List Row → LentPass → Type 0
 IsOfRow rows p = HasRow rows p.lane × (row_of rows p.lane ≡ lent_row p.numbers)
 
 -- no two have one lane
-abbrev pub LanesApart : List Lent → Type 0
+abbrev pub LanesApart : List LentPass → Type 0
 LanesApart [] = ⊤
 LanesApart (p ∷ ps) = AllByRecursion (λ q. q.lane ≢ p.lane) ps × LanesApart ps
 
@@ -43,7 +43,7 @@ LanesApart (p ∷ ps) = AllByRecursion (λ q. q.lane ≢ p.lane) ps × LanesApar
 -- a row that is lent and has its numbers, and no two of them have one lane
 pub record KeepsPasses
     (words : List ℕ) (views : List View)
-    (rows : List Row) (kept : Option Lent) (others : List View) : Type 0 where
+    (rows : List Row) (kept : Option LentPass) (others : List View) : Type 0 where
   pub word : words ≡ 0 ∷ []
   pub views_are : views ≡ Roll rows kept ∷ others
   pub one_roll : AllByRecursion IsNoRoll others
@@ -53,7 +53,7 @@ pub record KeepsPasses
 -- the rule: there are rows, a pass kept aside or none, and other views with which it holds
 abbrev pub PassRuleHolds : List ℕ → List View → Type 0
 PassRuleHolds words views =
-    (rows : List Row) × (kept : Option Lent) × (others : List View) ×
+    (rows : List Row) × (kept : Option LentPass) × (others : List View) ×
     KeepsPasses words views rows kept others
 
 -- ---- the steps
@@ -69,7 +69,7 @@ rows_of (Pass p) = []
 rows_of Spent = []
 
 -- what a pass's view carries
-abbrev pub lent_of : View → Lent
+abbrev pub lent_of : View → LentPass
 lent_of (Roll rows kept) = lent_pass 0 fresh
 lent_of (Pass p) = p
 lent_of Spent = lent_pass 0 fresh
@@ -84,7 +84,7 @@ abbrev pub pass_of : ℕ → Numbers → View
 pass_of lane numbers = Pass (lent_pass lane numbers)
 
 -- the pass of a view, if it has one
-abbrev pub pass_in_view : View → Option Lent
+abbrev pub pass_in_view : View → Option LentPass
 pass_in_view (Roll rows kept) = None
 pass_in_view (Pass p) = Some p
 pass_in_view Spent = None

@@ -12,7 +12,7 @@ pub struct Row {
 }
 
 /// What a pass carries.
-pub struct Lent {
+pub struct LentPass {
     /// The lane.
     pub lane: u32,
     /// The numbers with which its row was lent.
@@ -23,9 +23,9 @@ pub struct Lent {
 pub enum View {
     /// The roll's: the rows, that of lane 1 first, and the pass that came back and is kept aside
     /// until the load after the return.
-    Roll(LinkedList<Row>, Option<Lent>),
+    Roll(LinkedList<Row>, Option<LentPass>),
     /// A pass's.
-    Pass(Lent),
+    Pass(LentPass),
     /// That of a pass that was returned.
     Spent,
 }
