@@ -1,24 +1,22 @@
 //! Running a script's lines in order, and writing the entries of each as they come: no journal is
 //! kept.
-ghost use Rattle.std.specs.Prelude.{◌≡◌, ◌≤◌, ◌⊎◌, [], true, OnOk, OnErr, length};
-ghost use Rattle.cred_ids.specs.Limits.{BYTE_LIMIT, LINE_LIMIT};
+ghost use Rattle.std.specs.Prelude.{◌≡◌, ◌⊎◌, [], true, OnOk, OnErr};
+ghost use Rattle.cred_ids.specs.Limits.{BYTE_LIMIT};
 ghost use Rattle.cred_model.specs.Journal.{IsSequence};
 ghost use Rattle.cred_model.specs.State.{opening};
 ghost use Rattle.cred_io.specs.Causes.{CountsFaults};
 ghost use Rattle.cred_io.specs.Ends.{AppendsPrefix};
 ghost use Rattle.cred_report.specs.Text.{text};
 ghost use Rattle.cred_said.specs.Ends.{IsForText};
-ghost use Rattle.cred_said.specs.Leaves.{IsReading, IsWriting, LeavesReport, RunsBytes};
+ghost use Rattle.cred_said.specs.Leaves.{IsReading, IsWriting, LeavesReport};
 ghost use Rattle.cred_commands.specs.Sequences.{AppendsSequence, WritesSequenceStart, HandsOver};
 
 use crate::line::run_line;
 use cred_event::Entry;
-use cred_grammar::{line_count, read};
 use cred_hold::Cells;
-use cred_ids::limits;
-use cred_io::{ReadRefusal, Sink, SinkRefusal, Source, read_all};
+use cred_io::{Sink, SinkRefusal, Source};
 use cred_report::Pen;
-use cred_said::{Status, bad_line, finish, tell_said, write_entries, write_last};
+use cred_said::{Status, finish, read_script, write_entries, write_last};
 use cred_script::Script;
 use cred_state::State;
 use std::alloc::Global;
@@ -122,29 +120,6 @@ fn report_in_order<K: Sink>(alloc: Global, sink: &mut K, script: &Script) -> Sta
     finish(write_in_order(alloc, sink, script), Status::Done)
 }
 
-/// Runs the script that these bytes are, and writes the report, or its first bad line; nothing
-/// where there are too many lines.
-fn run_script_in_order<K: Sink>(alloc: Global, bytes: &[u8], sink: &mut K) -> Status
-    requires within { length bytes.now ≤ BYTE_LIMIT }
-    ensures runs { RunsBytes IsSequence bytes.now result (K.written sink.old)
-        (K.written sink.new) (sink.new ≡ sink.old) }
-    ensures writing { IsWriting result (K.handed_on sink.new)
-        (K.faults sink.old) (K.faults sink.new) }
-{
-    if line_count(bytes) > limits::LINE_LIMIT {
-        return Status::TooLarge;
-    }
-    match read(alloc, bytes) {
-        Ok(script) => {
-            let status = report_in_order(alloc, sink, &script);
-            // The program ends next, and its memory goes with it: no line is taken apart.
-            forget(script);
-            status
-        }
-        Err(refusal) => tell_said(sink, bad_line(alloc, refusal)),
-    }
-}
-
 /// Reads a script to its end, runs it, and writes its report, or its first bad line.
 pub fn read_and_run<S: Source, K: Sink>(alloc: Global, source: &mut S, sink: &mut K) -> Status
     ensures report { LeavesReport IsSequence result (S.left source.old) (S.left source.new)
@@ -156,10 +131,13 @@ pub fn read_and_run<S: Source, K: Sink>(alloc: Global, source: &mut S, sink: &mu
     ensures silent { (result ≡ Status.ReadFault) ⊎ (result ≡ Status.TooLarge)
         → sink.new ≡ sink.old }
 {
-    match read_all(alloc, source, limits::BYTE_LIMIT) {
-        Ok(bytes) => run_script_in_order(alloc, bytes.items(), sink),
-        Err(ReadRefusal::Fault) => Status::ReadFault,
-        Err(ReadRefusal::TooLarge) => Status::TooLarge,
-        Err(ReadRefusal::Memory) => Status::Memory,
+    match read_script(alloc, source, sink) {
+        Ok(script) => {
+            let status = report_in_order(alloc, sink, &script);
+            // The program ends next, and its memory goes with it: no line is taken apart.
+            forget(script);
+            status
+        }
+        Err(status) => status,
     }
 }

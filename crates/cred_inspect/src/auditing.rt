@@ -15,7 +15,7 @@ use crate::parts::input_parts;
 use cred_audit::{Verdict, audit};
 use cred_grammar::{line_count, read};
 use cred_ids::{NoMemory, limits};
-use cred_io::{ReadRefusal, Sink, Source, read_all};
+use cred_io::{Sink, Source, read_all};
 use cred_said::{Said, Status, bad_line, tell_said};
 use std::alloc::Global;
 use std::mem::forget;
@@ -33,9 +33,7 @@ pub fn read_and_audit<S: Source, K: Sink>(alloc: Global, source: &mut S, sink: &
 {
     match read_all(alloc, source, limits::AUDIT_LIMIT) {
         Ok(bytes) => run_audit(alloc, bytes.items(), sink),
-        Err(ReadRefusal::Fault) => Status::ReadFault,
-        Err(ReadRefusal::TooLarge) => Status::TooLarge,
-        Err(ReadRefusal::Memory) => Status::Memory,
+        Err(refusal) => Status::from(refusal),
     }
 }
 

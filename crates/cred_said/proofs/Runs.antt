@@ -1,17 +1,16 @@
 -- What a run of the bytes of a script leaves, by what came of the bytes.
-use Rattle.std.proofs.Common.{◌≡◌, ◌≤◌, ℕ, length, inr, List, Option, Result, Ok, Err, sym, subst, ◌∙◌}
+use Rattle.std.proofs.Common.{◌≡◌, ℕ, inr, List, Option, Result, Ok, Err, sym, subst, ◌∙◌}
 use Rattle.std.specs.Prelude.{IfOk, IfSome}
 use Rattle.std.specs.Io.KnownBytes.{Appends}
 use Rattle.std.proofs.KnownBytes.{Consumes-whole}
-use Rattle.std.proofs.lemmas.Result.{IfOk-weaker}
-use Rattle.cred_ids.specs.Limits.{LINE_LIMIT}
+use Rattle.std.proofs.lemmas.Result.{IfOk-weaker, MatchResult-weaker}
 use Rattle.cred_event.specs.declared.entry.Entry.{Entry}
 use Rattle.cred_fits.proofs.EntriesFit.{one_fitting_list}
 use Rattle.cred_io.specs.Ends.{AppendsPrefix, ReadsAll}
 use Rattle.cred_laws.proofs.AnsweredLaws.{so_far_is_answered}
 use Rattle.cred_laws.proofs.Lawful.{lawful}
 use Rattle.cred_model.specs.Journal.{IsLegal}
-use Rattle.cred_model.specs.Script.{Script, SetupFirst}
+use Rattle.cred_model.specs.Script.{Script}
 use Rattle.cred_report.specs.Text.{text}
 use Rattle.cred_grammar.specs.Grammar.{script_of}
 use Rattle.cred_grammar.specs.ReadAnswers.{ReadsAs}
@@ -20,7 +19,8 @@ use Rattle.cred_grammar.specs.declared.refusal.ScriptRefusal.TheVariants as refu
 use Rattle.cred_spelling.specs.declared.reason.Reason.{Reason}
 use Rattle.cred_said.specs.Ends.{BeginsOne, IsForText, IsWhole, IsWithinLimits, Reports, Suits}
 use Rattle.cred_said.specs.Cuts.{Cuts}
-use Rattle.cred_said.specs.Leaves.{LeavesReport, RunsBytes}
+use Rattle.cred_said.specs.Leaves.{IsReading, LeavesReport, RunsBytes}
+use Rattle.cred_said.specs.Scripts.{IsScript, NoJournal, ReadsScript}
 use Rattle.cred_said.specs.Telling.{SaysRefusal, TellsSaid}
 use Rattle.cred_said.specs.Texts.{bad_text}
 use Rattle.cred_said.specs.declared.said.Said.{Said}
@@ -29,13 +29,6 @@ use Rattle.cred_said.specs.declared.status.Status.TheVariants as status
 use Rattle.cred_said.proofs.Cuts.{cut_written}
 use Rattle.cred_said.proofs.Finished.{for_text_apart}
 use Rattle.cred_said.proofs.Telling.{SaidOne, by_ends, or_so, same_or_so, told_one}
-
--- The bytes are within both limits and are this script. The setup's lines come first.
-pub record IsScript (bytes : List ℕ) (script : Script) : Type 0 where
-  pub within : IsWithinLimits bytes
-  pub few : length script.lines ≤ LINE_LIMIT
-  pub read : script_of bytes ≡ Ok script
-  pub setup : SetupFirst script
 
 -- a whole report that was written, of one of these journals, which the script may have
 reported : (These : Script → List Entry → Type 0) (a b : Option (List ℕ)) (bytes : List ℕ) (script : Script) (journal : List Entry)
@@ -64,7 +57,7 @@ for_text_suits bytes script status.TooLarge is text = absurd text
 for_text_suits bytes script status.NotLegal is text = absurd text
 
 -- where they are a script, of which a report of one of these journals was to be written
-pub ran_script : (These : Script → List Entry → Type 0) (bytes : List ℕ) (script : Script) (answer : Status) (a b : Option (List ℕ)) (untouched : Type 0)
+ran_script : (These : Script → List Entry → Type 0) (bytes : List ℕ) (script : Script) (answer : Status) (a b : Option (List ℕ)) (untouched : Type 0)
     → IsScript bytes script → ((journal : List Entry) → These script journal → IsLegal script journal)
     → (answer ≡ status.Done → (journal : List Entry) × These script journal × Appends a b (text script journal))
     → (journal : List Entry) × These script journal × AppendsPrefix a b (text script journal)
@@ -98,18 +91,18 @@ refusal_whole refusal.Memory its said says = absurd says
 bad_suits : (bytes : List ℕ) (bad : ℕ × Reason) → IsWithinLimits bytes → script_of bytes ≡ Err bad → Suits bytes status.Bad
 bad_suits bytes bad within read = (within, rw read tt)
 
-bad_begins : (These : Script → List Entry → Type 0) (a b : Option (List ℕ)) (bytes : List ℕ) (bad : ℕ × Reason) → script_of bytes ≡ Err bad
-    → AppendsPrefix a b (bad_text bad) → BeginsOne These a b bytes
-bad_begins These a b bytes bad read prefix = rw read prefix
+bad_begins : (a b : Option (List ℕ)) (bytes : List ℕ) (bad : ℕ × Reason) → script_of bytes ≡ Err bad
+    → AppendsPrefix a b (bad_text bad) → BeginsOne NoJournal a b bytes
+bad_begins a b bytes bad read prefix = rw read prefix
 
 bad_cuts : (a b : Option (List ℕ)) (bytes : List ℕ) (bad : ℕ × Reason) → script_of bytes ≡ Err bad
     → AppendsPrefix a b (bad_text bad) → Cuts a b bytes
 bad_cuts a b bytes bad read prefix = rw read prefix
 
 -- where what is said of such bytes was to be said
-bad_said : (These : Script → List Entry → Type 0) (bytes : List ℕ) (answer : Status) (a b : Option (List ℕ)) (untouched : Type 0)
-    → IsWithinLimits bytes → SaidOne (IsBad bytes) answer a b untouched → RunsBytes These bytes answer a b untouched
-bad_said These bytes answer a b untouched within one = record {
+bad_said : (bytes : List ℕ) (answer : Status) (a b : Option (List ℕ)) (untouched : Type 0)
+    → IsWithinLimits bytes → SaidOne (IsBad bytes) answer a b untouched → RunsBytes NoJournal bytes answer a b untouched
+bad_said bytes answer a b untouched within one = record {
   done = λ e. let all = one.whole (subst IsWhole (sym e) tt) in let no : status.Bad ≡ status.Done = sym all.1.its_is ∙ e in cc;
   bad = λ e.
       let all = one.whole (subst IsWhole (sym e) tt) in
@@ -118,18 +111,18 @@ bad_said These bytes answer a b untouched within one = record {
   no_read_fault = one.no_read_fault;
   suits = by_ends (Suits bytes) answer one.ends
       (λ is. subst (Suits bytes) (sym is.1.its_is) (bad_suits bytes is.1.bad within is.1.read)) within tt;
-  prefix = or_so (λ some. (within, bad_begins These a b bytes some.2.bad some.2.read (subst (AppendsPrefix a b) some.2.said_is some.3))) one.prefix;
+  prefix = or_so (λ some. (within, bad_begins a b bytes some.2.bad some.2.read (subst (AppendsPrefix a b) some.2.said_is some.3))) one.prefix;
   cut = or_so (λ some. (within, bad_cuts a b bytes some.2.bad some.2.read (subst (AppendsPrefix a b) some.2.said_is some.3))) one.prefix;
 }
 
 -- where no script was read of them
-pub ran_refused : {E : Type 0} (These : Script → List Entry → Type 0) (bytes : List ℕ) (r : ScriptRefusal) (said : Result Said E) (answer : Status)
-    (a b : Option (List ℕ)) (untouched : Type 0) → IsWithinLimits bytes → ReadsAs (λ (s : Script). s) (Err r) (script_of bytes)
-    → IfOk said (λ s. SaysRefusal r s.status s.text.items) → TellsSaid said answer a b untouched → RunsBytes These bytes answer a b untouched
-ran_refused These bytes r said answer a b untouched within given says tells =
+pub ran_refused : {E : Type 0} (bytes : List ℕ) (r : ScriptRefusal) (said : Result Said E) (answer : Status) (a b : Option (List ℕ)) (untouched : Type 0)
+    → IsWithinLimits bytes → ReadsAs (λ (s : Script). s) (Err r) (script_of bytes)
+    → IfOk said (λ s. SaysRefusal r s.status s.text.items) → TellsSaid said answer a b untouched → RunsBytes NoJournal bytes answer a b untouched
+ran_refused bytes r said answer a b untouched within given says tells =
     let bad : IfOk said (λ s. IsBad bytes s.status s.text.items) = IfOk-weaker said _ _ (λ s is. is_bad bytes r s.status s.text.items given is) says in
     let has : IfOk said (λ s. IsWhole s.status) = IfOk-weaker said _ _ (λ s is. subst IsWhole (sym is.its_is) tt) bad in
-    bad_said These bytes answer a b untouched within (told_one (IsBad bytes) said answer a b untouched bad has tells)
+    bad_said bytes answer a b untouched within (told_one (IsBad bytes) said answer a b untouched bad has tells)
 
 -- ---- what a command leaves that has read the bytes to their end
 
@@ -145,4 +138,45 @@ leaves_report These before after a b bytes answer untouched same read runs = rec
   suits = λ input is. subst (λ o. IfSome o (λ i. Suits i answer)) is (Consumes-whole before after bytes (λ i. Suits i answer) read.taken read.ended runs.suits);
   prefix = same_or_so same (λ some. record { input = bytes; read = read; within = some.0; so = some.1 }) runs.prefix;
   cut = same_or_so same (λ some. record { input = bytes; read = read; within = some.0; so = some.1 }) runs.cut;
+}
+
+-- where what was left is a script, of which a report of one of these journals was to be written
+pub leaves_script : (These : Script → List Entry → Type 0) (before after a b : Option (List ℕ)) (script : Script) (answer : Status)
+    → ReadsScript before after script → ((journal : List Entry) → These script journal → IsLegal script journal)
+    → (answer ≡ status.Done → (journal : List Entry) × These script journal × Appends a b (text script journal))
+    → (journal : List Entry) × These script journal × AppendsPrefix a b (text script journal)
+    → IsForText answer → LeavesReport These answer before after a b
+leaves_script These before after a b script answer has legal all begun only =
+    leaves_report These before after a b has.input answer (b ≡ a) (λ same. same) has.read
+    (ran_script These has.input script answer a b (b ≡ a) has.is legal all begun only)
+
+begins_any : (These : Script → List Entry → Type 0) (a b : Option (List ℕ)) (bytes : List ℕ) → BeginsOne NoJournal a b bytes → BeginsOne These a b bytes
+begins_any These a b bytes begins = MatchResult-weaker (script_of bytes) begins (λ script some. absurd some.1) (λ bad prefix. prefix)
+
+-- where no script was read no journal was begun, whichever may come about
+pub leaves_any : (These : Script → List Entry → Type 0) (answer : Status) (before after a b : Option (List ℕ))
+    → LeavesReport NoJournal answer before after a b → LeavesReport These answer before after a b
+leaves_any These answer before after a b is = record {
+  done = λ e. absurd (is.done e).so.one;
+  bad = is.bad;
+  no_usage = is.no_usage;
+  no_not_legal = is.no_not_legal;
+  too_large = is.too_large;
+  write_fault = is.write_fault;
+  suits = is.suits;
+  prefix = or_so (λ some. record { input = some.input; read = some.read; within = some.within; so = begins_any These a b some.input some.so }) is.prefix;
+  cut = is.cut;
+}
+
+-- no text is told as a fault of the source
+pub reads_on : (limit : ℕ) (answer : Status) (before after : Option (List ℕ)) (faults now : ℕ) → IsForText answer
+    → IsReading limit status.Done before after faults now → IsReading limit answer before after faults now
+reads_on limit answer before after faults now only is = record {
+  cause = record {
+    rose = λ e. absurd (for_text_apart answer status.ReadFault only (λ t. t) e);
+    stayed = λ no_fault. is.cause.stayed (λ e. cc);
+    later = is.cause.later;
+  };
+  fault = λ e. absurd (for_text_apart answer status.ReadFault only (λ t. t) e);
+  no_more = is.no_more;
 }

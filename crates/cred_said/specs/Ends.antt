@@ -7,6 +7,8 @@ use Rattle.cred_ids.specs.Limits.{BYTE_LIMIT, LINE_LIMIT}
 use Rattle.cred_io.specs.Ends.{ReadsAll, ReadsMoreThan, AppendsPrefix}
 use Rattle.cred_io.specs.declared.sink.SinkRefusal.{SinkRefusal}
 use Rattle.cred_io.specs.declared.sink.SinkRefusal.TheVariants as sink
+use Rattle.cred_io.specs.declared.source.ReadRefusal.{ReadRefusal}
+use Rattle.cred_io.specs.declared.source.ReadRefusal.TheVariants as source
 use Rattle.cred_event.specs.declared.entry.Entry.{Entry}
 use Rattle.cred_model.specs.Script.{Script}
 use Rattle.cred_model.specs.Journal.{IsSequence, IsLegal}
@@ -132,3 +134,14 @@ abbrev pub status_after : Result (Unit {0}) SinkRefusal → Status → Status
 status_after (Ok done) answer = answer
 status_after (Err sink.Failed) answer = status.WriteFault
 status_after (Err sink.Memory) answer = status.Memory
+
+-- the status of a command whose input was not read
+abbrev pub status_unread : ReadRefusal → Status
+status_unread source.Fault = status.ReadFault
+status_unread source.TooLarge = status.TooLarge
+status_unread source.Memory = status.Memory
+
+-- the status of a command that ends where it has no value, and may be done where it has one
+abbrev pub status_so_far : {T : Type 0} → Result T Status → Status
+status_so_far (Ok value) = status.Done
+status_so_far (Err answer) = answer

@@ -2,7 +2,7 @@
 ghost use Rattle.std.specs.Prelude.{◌≡◌};
 ghost use Rattle.cred_said.specs.Ends.{status_after};
 
-use cred_io::SinkRefusal;
+use cred_io::{ReadRefusal, SinkRefusal};
 
 /// How a run of the program ended.
 #[derive(Clone, Copy, PartialEq, Eq, Debug)]
@@ -36,6 +36,21 @@ impl Status {
         ensures { result ≡ code_of self }
     {
         self as u8
+    }
+}
+
+/// How a command ends whose input was not read.
+impl From<ReadRefusal> for Status {
+    ghost use Rattle.cred_said.specs.Ends.{status_unread};
+
+    ghost from_gives = { λ refusal status. status ≡ status_unread refusal };
+
+    fn from(refusal: ReadRefusal) -> Self {
+        match refusal {
+            ReadRefusal::Fault => Status::ReadFault,
+            ReadRefusal::TooLarge => Status::TooLarge,
+            ReadRefusal::Memory => Status::Memory,
+        }
     }
 }
 

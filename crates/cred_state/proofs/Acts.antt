@@ -41,7 +41,7 @@ use Rattle.cred_tables.proofs.InUse.{Differ}
 use Rattle.cred_model.proofs.Places.{if_some}
 use Rattle.cred_tables.proofs.Sealing.{Drops, roomy, in_free_or, in_none_or}
 use Rattle.cred_setid.specs.Parts.{PartsBecome}
-use Rattle.cred_setid.specs.declared.parts.Parts.{Parts as IdParts}
+use Rattle.cred_setid.specs.declared.parts.IdParts.{IdParts}
 
 -- ---- what was found
 
