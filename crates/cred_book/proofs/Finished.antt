@@ -24,7 +24,7 @@ use Rattle.cred_work.specs.Work.{Work}
 use Rattle.cred_tables.specs.Out.{AreOut, hold_token, kept_tokens, tokens_in, needs_tokens}
 use Rattle.cred_tables.proofs.Back.{has_taken, taken_has}
 use Rattle.cred_tables.proofs.Outs.{base_out, hold_out, hold_token_is, kept_tokens_are, writer_out}
-use Rattle.cred_state.specs.TokensOut.{AreTaken, entries_of}
+use Rattle.cred_state.specs.TokensOut.{AreTaken, loans_of}
 use Rattle.cred_state.proofs.Lines.{IsLines, may_need_tokens, names_own, same_event, waiting_may}
 use Rattle.cred_state.proofs.Stays.{base_sealed, held_sealed}
 use Rattle.cred_book.specs.Book.{Recorded}
@@ -86,7 +86,7 @@ module _ (s : State) (sound : IsSound s) (out : List Loan) (are : AreOut s out) 
           ∙ sym (kept_tokens_are s label p c.0 at c.1)
 
   pub tokens_back : (cells : TableId) (lent : Lent) → needs_tokens s (work_event lent) ≡ true → AreOf cells lent
-      → ((e : Loan) → Has (entries_of lent) e → Has out e) → entries_of lent ≡ tokens_in s (work_event lent)
+      → ((e : Loan) → Has (loans_of lent) e → Has out e) → loans_of lent ≡ tokens_in s (work_event lent)
   tokens_back cells (Asking hold query told) waits of has = hold_back hold.label hold refl waits (has (hold_loan hold) (inl refl))
   tokens_back cells (Opening hold file want fd may) waits of has = hold_back hold.label hold refl waits (has (hold_loan hold) (inl refl))
   tokens_back cells (Signalling from hold to target may) waits of has =
@@ -101,7 +101,7 @@ module _ (s : State) (sound : IsSound s) (out : List Loan) (are : AreOut s out) 
 -- one of its tokens
 pub record HasToken (lent : Lent) : Type 0 where
   pub it : Loan
-  pub is : Has (entries_of lent) it
+  pub is : Has (loans_of lent) it
   pub named : Contains (event_labels (work_event lent)) it.label
 
 one_token : (cells : TableId) (lent : Lent) → AreOf cells lent → HasToken lent
@@ -131,7 +131,7 @@ abbrev due_of_line : ℕ → Event → Due
 due_of_line line event = record { line = line; event = event }
 
 pub event_is : (book : Recorded) (lane : ℕ) (work : Work) → BookStands book → IsLanes book lane work → (out : IsOutOf book lane work.line)
-    → ((e : Loan) → Has (entries_of work.lent) e → Has book.words.out e) → work_event work.lent ≡ out.event
+    → ((e : Loan) → Has (loans_of work.lent) e → Has book.words.out e) → work_event work.lent ≡ out.event
 event_is book lane work stands is out has = by (cases_eq at.lane lane)
   where
     token : HasToken work.lent

@@ -30,7 +30,7 @@ use Rattle.cred_work.specs.DecidedWorks.{IsUndecided}
 use Rattle.cred_tables.specs.Kept.{Words}
 use Rattle.cred_tables.specs.Out.{AreBack, AreOut, tokens_in, needs_tokens}
 use Rattle.cred_tables.proofs.Outs.{tokens_like}
-use Rattle.cred_state.specs.TokensOut.{IsChain, IsNs, entries_of, needs_decision}
+use Rattle.cred_state.specs.TokensOut.{IsChain, IsNs, loans_of, needs_decision}
 use Rattle.cred_book.specs.Book.{Recorded, answer_of, infos_in, out_of, with_event}
 use Rattle.cred_book.specs.Counts.{Counts, HasEntered, count_of}
 use Rattle.cred_book.specs.Cursor.{Finishes, Makes, BookStands, steps_left, moved_on}
@@ -48,7 +48,7 @@ use Rattle.cred_book.proofs.Works.{GoesOn, IsNowOut, after, lends, lends_now, ou
 -- ---- out
 
 lent_chain : (script : Script) (s t : State) (like : IsLike s t) (ns : ℕ) (lent : Lent) → IsNs s (its_event lent) ns
-    → entries_of lent ≡ tokens_in t (its_event lent) → IsChain script lent (chain_of script ns)
+    → loans_of lent ≡ tokens_in t (its_event lent) → IsChain script lent (chain_of script ns)
 lent_chain script s t like ns (Altering base writer (Exec file) made) is tokens =
     by (prepared_of s base.label) is (tokens ∙ sym (tokens_like s t like (Alter base.label (Exec file))))
   where
@@ -74,7 +74,7 @@ lent_chain script s t like ns lent is tokens = tt
 
 -- the namespace that a state decides an event by has the root ids of what is lent for it
 pub ns_chain : (script : Script) (s t : State) (like : IsLike s t) (event : Event) (ns : ℕ) → IsNs s event ns
-    → (lent : Lent) → its_event lent ≡ event → entries_of lent ≡ tokens_in t event → IsChain script lent (chain_of script ns)
+    → (lent : Lent) → its_event lent ≡ event → loans_of lent ≡ tokens_in t event → IsChain script lent (chain_of script ns)
 ns_chain script s t like event ns is lent named tokens =
     lent_chain script s t like ns lent (subst (λ e. IsNs s e ns) (sym named) is) (tokens ∙ ap (tokens_in t) (sym named))
 
@@ -112,7 +112,7 @@ pub record IsDueWork (book : Recorded) (lane : ℕ) (course : Course) (work : Wo
   pub undecided : IsUndecided work
   pub waits : needs_tokens (replay book.script book.journal) (its_event work.lent) ≡ true
   pub own : AreOf book.words.id work.lent
-  pub tokens : entries_of work.lent ≡ tokens_in (replay book.script book.journal) (its_event work.lent)
+  pub tokens : loans_of work.lent ≡ tokens_in (replay book.script book.journal) (its_event work.lent)
   pub file : work.file ≡ info_of (infos_in book) (event_files (its_event work.lent))
   pub chain : IsChainFor book (its_event work.lent) work.chain
 
@@ -226,7 +226,7 @@ pub record ComesBack (before after : Recorded) (lane : ℕ) (work : Work) : Type
 
 makes_back : (before after : Recorded) (lane : ℕ) (comes : Option logged.Entry) (made : logged.Entry) (work : Work) → comes ≡ Some made
     → made.line ≡ work.line → made.event ≡ (its_event work.lent) → after.journal ≡ before.journal ++ made ∷ []
-    → after.outs ≡ set before.outs lane None → AreBack (entries_of work.lent) before.words after.words
+    → after.outs ≡ set before.outs lane None → AreBack (loans_of work.lent) before.words after.words
     → Finishes before after lane work comes
 makes_back before after lane comes made work is line event grown outs words =
     rw is (line, event, grown, record { outs = outs; words = words })
@@ -257,8 +257,8 @@ comes_back book entered lane course to work stands are is due back passes =
     line : course.line ≡ work.line
     line = course_is book lane work course stands is due
 
-    has_taken : (e : Loan) → Has (entries_of work.lent) e → Has book.words.out e
-    has_taken = all_taken (entries_of work.lent) book.words.out entered.words.out back.taken
+    has_taken : (e : Loan) → Has (loans_of work.lent) e → Has book.words.out e
+    has_taken = all_taken (loans_of work.lent) book.words.out entered.words.out back.taken
 
     event : (its_event work.lent) ≡ out.event
     event = event_is book lane work stands is out has_taken
@@ -276,7 +276,7 @@ comes_back book entered lane course to work stands are is due back passes =
           passes = passes;
         }
 
-    tokens : entries_of work.lent ≡ lane_tokens book lane
+    tokens : loans_of work.lent ≡ lane_tokens book lane
     tokens =
         tokens_back (replay book.script book.journal) (sound_after book.script book.journal) book.words.out are book.words.id work.lent
         waits is.of.own has_taken
@@ -285,7 +285,7 @@ comes_back book entered lane course to work stands are is due back passes =
 
     returned : (test : Loan → Bool) → count_by test book.words.out ≡ count_by test (lane_tokens book lane) + count_by test entered.words.out
     returned test =
-        back.words.out test ∙ count-append test (entries_of work.lent) entered.words.out
+        back.words.out test ∙ count-append test (loans_of work.lent) entered.words.out
         ∙ ap (λ es. count_by test es + count_by test entered.words.out) tokens
 
     now : IsNowOut book.outs (set book.outs lane None) lane None

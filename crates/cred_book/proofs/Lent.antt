@@ -18,7 +18,7 @@ use Rattle.cred_work.specs.declared.lent.Lent.TheVariants.{Asking, Opening, Sign
 use Rattle.cred_tables.specs.Kept.{Standing}
 use Rattle.cred_tables.specs.Out.{AreHome, AreOut, hold_token, kept_tokens, tokens_in}
 use Rattle.cred_tables.proofs.Outs.{IsToken, has_first, has_last, has_out, held_token, kept_token, out_has}
-use Rattle.cred_state.specs.TokensOut.{entries_of, with_lent}
+use Rattle.cred_state.specs.TokensOut.{loans_of, with_lent}
 use Rattle.cred_book.specs.Book.{Recorded, out_of}
 use Rattle.cred_book.specs.Cursor.{BookStands}
 use Rattle.cred_book.specs.Works.{IsOutOf, lane_tokens}
@@ -74,15 +74,15 @@ token_of s event e has = by event has
     by event has = absurd has
 
 -- what is lent besides
-pub out_lent : (s : State) (event : Event) (lent : Lent) (out : List Loan) → entries_of lent ≡ tokens_in s event → AreOut s out
-    → AreOut s (entries_of lent ++ out)
-out_lent s event lent out tokens are = has_out s (entries_of lent ++ out) (λ e has. by e (has-append (entries_of lent) out e has))
+pub out_lent : (s : State) (event : Event) (lent : Lent) (out : List Loan) → loans_of lent ≡ tokens_in s event → AreOut s out
+    → AreOut s (loans_of lent ++ out)
+out_lent s event lent out tokens are = has_out s (loans_of lent ++ out) (λ e has. by e (has-append (loans_of lent) out e has))
   where
-    by : (e : Loan) → Has (entries_of lent) e ⊎ Has out e → IsToken s e
+    by : (e : Loan) → Has (loans_of lent) e ⊎ Has out e → IsToken s e
     by e (inl has) = token_of s event e (subst (λ es. Has es e) tokens has)
     by e (inr has) = out_has s out e are has
 
-pub words_lent : (before : Standing) (lent : Lent) → (with_lent before lent).words.out ≡ entries_of lent ++ before.words.out
+pub words_lent : (before : Standing) (lent : Lent) → (with_lent before lent).words.out ≡ loans_of lent ++ before.words.out
 words_lent before (Asking hold query told) = refl
 words_lent before (Opening hold file want fd may) = refl
 words_lent before (Signalling from hold to target may) = refl

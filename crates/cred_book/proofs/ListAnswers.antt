@@ -26,7 +26,8 @@ use Rattle.cred_model.specs.FileChanges.{changed_by}
 use Rattle.cred_model.specs.Script.{Script, chain_of, root_of, reaches}
 use Rattle.cred_model.specs.Dumpable.{differs, flag_of_value, flags_begun, flags_committed, is_dumpable, renewed}
 use Rattle.cred_model.specs.Ptrace.{may_trace}
-use Rattle.cred_model.specs.State.{State, Task, Broadcast, Prepared, Changed, Numbered, credential_of, opener_of, numbered, task_of, broadcast_of, broadcast_in, begun_by}
+use Rattle.cred_model.specs.State.{State, Task, Broadcast, Prepared, Changed, Numbered, credential_of, opener_of, numbered, task_of, broadcast_of, broadcast_in}
+use Rattle.cred_model.specs.State.{begun_by}
 use Rattle.cred_model.specs.State.{open_of, hold_of, prepared_of, held_by, info_of}
 use Rattle.cred_model.specs.Named.{change_files}
 use Rattle.cred_model.specs.Answers.{checked}
@@ -34,9 +35,9 @@ use Rattle.cred_model.specs.Change.{Made, made_by_rule, made_by_exec, made_by_ex
 use Rattle.cred_model.specs.Ends.{is_thread_of, ended}
 use Rattle.cred_model.specs.Casts.{others_of, with_broadcast, waits_no_more}
 use Rattle.cred_model.specs.Like.{IsLike, IsOutcomeLike}
-use Rattle.cred_model.specs.Moves.{table_full, first_task, created, replaced, preparing, given_up}
-use Rattle.cred_model.specs.Moves.{committed}
-use Rattle.cred_model.specs.Step.{aborted, by_file, broadcasts_after, commit_answer, committed_by, ends_with, follow, for_access, for_task, outcome, override_held}
+use Rattle.cred_model.specs.Moves.{table_full, first_task, created, replaced, preparing, given_up, committed}
+use Rattle.cred_model.specs.Step.{aborted, by_file, broadcasts_after, commit_answer, committed_by, ends_with, follow, for_access, for_task, outcome}
+use Rattle.cred_model.specs.Step.{override_held}
 use Rattle.cred_model.specs.Step.{override_prepared, step, take_hold, try_commit}
 use Rattle.cred_sound.proofs.Tests.{IfAllowed, outcome_has, if_some, if_none, if_either, if_fewer, if_passed, if_idle, if_own, if_last, if_file_rule, if_rule}
 use Rattle.cred_sound.proofs.Tests.{if_ok, in_slots}

@@ -24,7 +24,7 @@ use Rattle.cred_hold.specs.Tokens.{Loan}
 use Rattle.cred_work.specs.declared.lent.Lent.{Lent}
 use Rattle.cred_tables.specs.Kept.{Words}
 use Rattle.cred_tables.specs.Out.{AreSameTokens, tokens_in, needs_tokens}
-use Rattle.cred_state.specs.TokensOut.{entries_of}
+use Rattle.cred_state.specs.TokensOut.{loans_of}
 use Rattle.cred_state.proofs.Stays.{StillWaits, waiting_stays}
 use Rattle.cred_book.specs.Book.{Recorded, answer_of, out_of, with_event}
 use Rattle.cred_book.specs.Counts.{IsOutNow}
@@ -177,7 +177,7 @@ module _ {book : Recorded} {lane : ℕ} {course : Course} {event : Event} {to : 
 module _ (book : Recorded) (lane line : ℕ) (event : Event) (lent : Lent) (stands : BookStands book) (home : out_of book lane ≡ None)
     (next : IsNext book.script book.journal lane (record { line = line; event = event }))
     (waits : needs_tokens (replay book.script book.journal) event ≡ true)
-    (tokens : entries_of lent ≡ tokens_in (replay book.script book.journal) event)
+    (tokens : loans_of lent ≡ tokens_in (replay book.script book.journal) event)
     (within : lane < length book.outs) where
   abbrev lending : Recorded
   lending = with_out book lane line lent
@@ -214,18 +214,18 @@ module _ (book : Recorded) (lane line : ℕ) (event : Event) (lent : Lent) (stan
           lane_tokens_are lending other its (sets.others other differ ∙ was) (same_work other its work)
           ∙ sym (lane_tokens_are book other its was work)
 
-  lent_too : AreSameTokens (entries_of lent ++ book.words.out) (tokens_out lending)
+  lent_too : AreSameTokens (loans_of lent ++ book.words.out) (tokens_out lending)
   unfolding own_work
   lent_too test =
       let one = count-joined test (λ lane. lane_tokens lending lane) (range_with_len 0 (length (set book.outs lane (Some line)))) in
       let other = count-joined test (λ lane. lane_tokens book lane) (range_with_len 0 (length book.outs)) in
       let both = sum-but_one (λ lane. count_by test (lane_tokens lending lane)) (λ lane. count_by test (lane_tokens book lane)) 0 (length book.outs) lane
       (omega arith) (omega (arith, within)) (λ k differ. ap (count_by test) (other_tokens k differ)) in
-      let own : count_by test (lane_tokens lending lane) ≡ count_by test (entries_of lent)
+      let own : count_by test (lane_tokens lending lane) ≡ count_by test (loans_of lent)
       = ap (count_by test) (lane_tokens_are lending lane line sets.own own_work ∙ sym tokens) in
       let none : count_by test (lane_tokens book lane) ≡ 0 = ap (count_by test) (lane_tokens_none book lane home) in
       let same = ap (λ n. sum_by (λ lane. count_by test (lane_tokens lending lane)) (range_with_len 0 n)) sets.long in
-      let all = count-append test (entries_of lent) book.words.out in
+      let all = count-append test (loans_of lent) book.words.out in
       let was = stands.lent test in
       omega (arith, one, other, both, own, none, same, all, was)
 

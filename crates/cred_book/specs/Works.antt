@@ -25,7 +25,7 @@ use Rattle.cred_work.specs.declared.lent.Lent.TheVariants.{Altering}
 use Rattle.cred_work.specs.Work.{Work}
 use Rattle.cred_work.specs.DecidedWorks.{IsUndecided}
 use Rattle.cred_tables.specs.Out.{AreBack, tokens_in, needs_tokens}
-use Rattle.cred_state.specs.TokensOut.{AreTaken, IsChain, entries_of}
+use Rattle.cred_state.specs.TokensOut.{AreTaken, IsChain, loans_of}
 use Rattle.cred_book.specs.Book.{Recorded, infos_in, out_of, with_event}
 
 -- No label stands in the words of lines of two lanes, neither of which is the setup. And none of
@@ -84,7 +84,7 @@ places_of lent places = places
 abbrev pub with_out : Recorded → ℕ → ℕ → Lent → Recorded
 with_out book lane line lent = record book {
   outs = set book.outs lane (Some line);
-  words = record book.words { out = entries_of lent ++ book.words.out };
+  words = record book.words { out = loans_of lent ++ book.words.out };
   places = places_of lent book.places;
 }
 
@@ -96,7 +96,7 @@ with_work book lane work = with_out book lane work.line work.lent
 abbrev pub IsChainFor : Recorded → Event → List ℕ → Type 0
 IsChainFor book event chain =
     (lent : Lent) → work_event lent ≡ event
-    → entries_of lent ≡ tokens_in (replay book.script book.journal) event
+    → loans_of lent ≡ tokens_in (replay book.script book.journal) event
     → IsChain book.script lent chain
 
 -- The lane's event, which is of this line, goes out as this work. It waits for a decision, and the
@@ -108,7 +108,7 @@ pub record GoesOut (before after : Recorded) (lane n : ℕ) (asked : Event) (wor
     pub undecided : IsUndecided work
     pub waits : needs_tokens (replay before.script before.journal) asked ≡ true
     pub own : AreOf before.words.id work.lent
-    pub tokens : entries_of work.lent ≡ tokens_in (replay before.script before.journal) asked
+    pub tokens : loans_of work.lent ≡ tokens_in (replay before.script before.journal) asked
     pub file : work.file ≡ info_of (infos_in before) (event_files asked)
     pub chain : IsChainFor before asked work.chain
     pub lent : after ≡ with_work before lane work
@@ -123,7 +123,7 @@ IsHanded before after lane line event None =
 -- the lane's work has come back: nothing else was lent or taken back
 pub record IsBack (before after : Recorded) (lane : ℕ) (work : Work) : Type 0 where
   pub outs : after.outs ≡ set before.outs lane None
-  pub words : AreBack (entries_of work.lent) before.words after.words
+  pub words : AreBack (loans_of work.lent) before.words after.words
 
 -- The work's event was entered, and its tokens have come back. All else stays, but for what stands
 -- in the slots.
@@ -133,5 +133,5 @@ pub record IsEntered (before after : Recorded) (work : Work) : Type 0 where
         words = after.words;
         places = after.places;
       }
-  pub words : AreBack (entries_of work.lent) before.words after.words
-  pub taken : AreTaken (entries_of work.lent) before.words.out after.words.out
+  pub words : AreBack (loans_of work.lent) before.words after.words
+  pub taken : AreTaken (loans_of work.lent) before.words.out after.words.out

@@ -56,7 +56,8 @@ pub spelled : (bytes : List ℕ) (d : CapData) → data_of bytes ≡ Some d → 
 unfolding data_of
 spelled bytes d same =
     elim
-    (chosen (has_version_form bytes 1) (has_version_form bytes 2) (has_version_form bytes 3) (data_said bytes 1) (data_said bytes 2) (data_said bytes 3) d same) [
+    (chosen (has_version_form bytes 1) (has_version_form bytes 2) (has_version_form bytes 3)
+    (data_said bytes 1) (data_said bytes 2) (data_said bytes 3) d same) [
       | inl one ↦ subst (SpellsData bytes) one.1 (form-spells bytes 1 refl one.0)
       | inr (inl two) ↦ subst (SpellsData bytes) two.1 (form-spells bytes 2 refl two.0)
       | inr (inr three) ↦ subst (SpellsData bytes) three.1 (form-spells bytes 3 refl three.0)

@@ -11,7 +11,7 @@ use Rattle.cred_captext.specs.declared.action.Operator.TheVariants.{Reset, Raise
 use Rattle.cred_captext.specs.declared.action.Letter.{Letter}
 use Rattle.cred_captext.specs.declared.action.Letter.TheVariants as letter
 use Rattle.cred_captext.specs.declared.sets.Sets.{Sets}
-use Rattle.cred_captext.specs.declared.bytes.Place.TheVariants.{Start, Name, Sign, Letters}
+use Rattle.cred_captext.specs.declared.bytes.TextPlace.TheVariants.{Start, Name, Sign, Letters}
 use Rattle.cred_captext.specs.declared.bytes.Reader.{Reader}
 use Rattle.cred_captext.specs.Names.{small_name}
 use Rattle.cred_captext.specs.Grammar.{Listed, Everything, Unsaid, Named, Action, Clause, Clauses}

@@ -13,9 +13,9 @@ use Rattle.cred_captext.specs.declared.action.Operator.{Operator}
 use Rattle.cred_captext.specs.declared.action.Operator.TheVariants.{Reset, Raise, Lower}
 use Rattle.cred_captext.specs.declared.action.Letter.TheVariants as letter
 use Rattle.cred_captext.specs.declared.sets.Sets.{Sets}
-use Rattle.cred_captext.specs.declared.bytes.Place.{Place}
-use Rattle.cred_captext.specs.declared.bytes.Place.TheVariants.{Start, A, Al, All, Name, Sign}
-use Rattle.cred_captext.specs.declared.bytes.Place.TheVariants.{Letters}
+use Rattle.cred_captext.specs.declared.bytes.TextPlace.{TextPlace}
+use Rattle.cred_captext.specs.declared.bytes.TextPlace.TheVariants.{Start, A, Al, All, Name, Sign}
+use Rattle.cred_captext.specs.declared.bytes.TextPlace.TheVariants.{Letters}
 use Rattle.cred_captext.specs.declared.bytes.Reader.{Reader}
 use Rattle.cred_captext.specs.Names.{small_name, cap_of_small_name, begins_name}
 use Rattle.cred_captext.specs.Grammar.{Clauses}
@@ -36,7 +36,7 @@ use Rattle.cred_captext.proofs.Tails.{text-read}
 no-bytes : Fronts []
 no-bytes = record { number = 0; rest = small_name 0; cap = omega arith; name = refl }
 
-abbrev IsLive : Place → Type 0
+abbrev IsLive : TextPlace → Type 0
 IsLive Start = Unit {0}
 IsLive A = Unit {0}
 IsLive Al = Unit {0}
@@ -78,7 +78,7 @@ separated-live s list b r is =
       | inr miss ↦ operated-live s list b r miss.1
     ]
 
-word-live : (s : Sets) (place : Place) (b : ℕ) (r : Reader) → word s place b ≡ Some r
+word-live : (s : Sets) (place : TextPlace) (b : ℕ) (r : Reader) → word s place b ≡ Some r
     → IsLive place → IsLive r.place
 word-live s place b r is live =
     subst (λ t. IsLive t.place) (cond_some (b == 108) (reader s full place) r is).1 live
@@ -88,7 +88,7 @@ named-live : (s : Sets) (list : Caps) (w : List ℕ) (b : ℕ) (o : Option ℕ) 
 named-live s list w b None r is = longer-live s list (w ++ b ∷ []) r is
 named-live s list w b (Some n) r is = separated-live s (with list n) b r is
 
-step-live : (s : Sets) (list : Caps) (place : Place) (b : ℕ) (r : Reader)
+step-live : (s : Sets) (list : Caps) (place : TextPlace) (b : ℕ) (r : Reader)
     → step_at s list place b ≡ Some r → IsLive r.place
 step-live s list Start b r is =
     elim (chosen (b == 97) _ _ _ is) [
@@ -137,7 +137,7 @@ name-ends s list w prefix = record {
       ∙ name_operator-said prefix.number Reset [] s list prefix.cap;
 }
 
-place-ends : (s : Sets) (list : Caps) (place : Place) → IsLive place → Ends (reader s list place)
+place-ends : (s : Sets) (list : Caps) (place : TextPlace) → IsLive place → Ends (reader s list place)
 place-ends s list Start live = record { rest = 61 ∷ []; sets = after_operator full Reset s; says = refl }
 place-ends s list A live =
     record { rest = 108 ∷ 108 ∷ 61 ∷ []; sets = after_operator full Reset s; says = refl }

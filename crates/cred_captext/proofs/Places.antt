@@ -6,9 +6,9 @@ use Rattle.cred_caps.specs.Caps.{Caps, IsCap, full, with}
 use Rattle.cred_captext.specs.declared.action.Operator.{Operator}
 use Rattle.cred_captext.specs.declared.action.Letter.{Letter}
 use Rattle.cred_captext.specs.declared.sets.Sets.{Sets}
-use Rattle.cred_captext.specs.declared.bytes.Place.{Place}
-use Rattle.cred_captext.specs.declared.bytes.Place.TheVariants.{Start, A, Al, All, Name, Sign}
-use Rattle.cred_captext.specs.declared.bytes.Place.TheVariants.{Letters}
+use Rattle.cred_captext.specs.declared.bytes.TextPlace.{TextPlace}
+use Rattle.cred_captext.specs.declared.bytes.TextPlace.TheVariants.{Start, A, Al, All, Name, Sign}
+use Rattle.cred_captext.specs.declared.bytes.TextPlace.TheVariants.{Letters}
 use Rattle.cred_captext.specs.declared.bytes.Reader.{Reader}
 use Rattle.cred_captext.specs.Names.{small_name}
 use Rattle.cred_captext.specs.Grammar.{Action, Clause}
@@ -71,7 +71,7 @@ pub record Starts (s : Sets) (bytes : List ℕ) (x : Sets) : Type 0 where
   pub text : bytes ≡ clause_text first ++ ends others
   pub value : x ≡ fold after_clause s (first ∷ others)
 
-abbrev pub TailAt : Sets → Caps → Place → List ℕ → Sets → Type 0
+abbrev pub TailAt : Sets → Caps → TextPlace → List ℕ → Sets → Type 0
 TailAt s list Start bytes x = Starts s bytes x
 TailAt s list A bytes x = Word (108 ∷ 108 ∷ []) s bytes x
 TailAt s list Al bytes x = Word (108 ∷ []) s bytes x

@@ -12,9 +12,9 @@ use Rattle.cred_captext.specs.declared.action.Operator.TheVariants.{Reset, Raise
 use Rattle.cred_captext.specs.declared.action.Letter.{Letter}
 use Rattle.cred_captext.specs.declared.action.Letter.TheVariants as letter
 use Rattle.cred_captext.specs.declared.sets.Sets.{Sets}
-use Rattle.cred_captext.specs.declared.bytes.Place.{Place}
-use Rattle.cred_captext.specs.declared.bytes.Place.TheVariants.{Start, A, Al, All, Name, Sign}
-use Rattle.cred_captext.specs.declared.bytes.Place.TheVariants.{Letters}
+use Rattle.cred_captext.specs.declared.bytes.TextPlace.{TextPlace}
+use Rattle.cred_captext.specs.declared.bytes.TextPlace.TheVariants.{Start, A, Al, All, Name, Sign}
+use Rattle.cred_captext.specs.declared.bytes.TextPlace.TheVariants.{Letters}
 use Rattle.cred_captext.specs.declared.bytes.Reader.{Reader}
 use Rattle.cred_captext.specs.Names.{small_name, cap_of_small_name, begins_name}
 use Rattle.cred_captext.specs.Grammar.{Listed, Everything, Unsaid, Named, Clauses}
@@ -292,13 +292,13 @@ at-start s list b bytes x r is tail =
     ]
 
 -- a letter of the word `all`
-spelled : (s : Sets) (place : Place) (b : ℕ) (r : Reader) → word s place b ≡ Some r
+spelled : (s : Sets) (place : TextPlace) (b : ℕ) (r : Reader) → word s place b ≡ Some r
     → (b ≡ 108) × (reader s full place ≡ r)
 spelled s place b r is =
     let parts = cond_some (b == 108) (reader s full place) r is in
     (eqb-true b 108 parts.0, parts.1)
 
-tail-step : (s : Sets) (list : Caps) (place : Place) (b : ℕ) (bytes : List ℕ) (x : Sets)
+tail-step : (s : Sets) (list : Caps) (place : TextPlace) (b : ℕ) (bytes : List ℕ) (x : Sets)
     (r : Reader)
     → step_at s list place b ≡ Some r → Tail r bytes x → TailAt s list place (b ∷ bytes) x
 tail-step s list Start b bytes x r is tail = at-start s list b bytes x r is tail
@@ -321,7 +321,7 @@ tail-step s list (Letters op) b bytes x r is tail = at-letters s list op b bytes
 
 -- ---- to the end
 
-tail-end : (s : Sets) (list : Caps) (place : Place) (x : Sets) → sets_at s place ≡ Some x
+tail-end : (s : Sets) (list : Caps) (place : TextPlace) (x : Sets) → sets_at s place ≡ Some x
     → TailAt s list place [] x
 unfolding ends
 tail-end s list Start x is = cc

@@ -9,9 +9,9 @@ use Rattle.cred_captext.specs.declared.action.Operator.TheVariants.{Reset, Raise
 use Rattle.cred_captext.specs.declared.action.Letter.{Letter}
 use Rattle.cred_captext.specs.declared.action.Letter.TheVariants as letter
 use Rattle.cred_captext.specs.declared.sets.Sets.{Sets}
-use Rattle.cred_captext.specs.declared.bytes.Place.{Place}
-use Rattle.cred_captext.specs.declared.bytes.Place.TheVariants.{Start, A, Al, All, Name}
-use Rattle.cred_captext.specs.declared.bytes.Place.TheVariants.{Sign, Letters}
+use Rattle.cred_captext.specs.declared.bytes.TextPlace.{TextPlace}
+use Rattle.cred_captext.specs.declared.bytes.TextPlace.TheVariants.{Start, A, Al, All, Name}
+use Rattle.cred_captext.specs.declared.bytes.TextPlace.TheVariants.{Sign, Letters}
 use Rattle.cred_captext.specs.declared.bytes.Reader.{Reader}
 use Rattle.cred_captext.specs.Names.{cap_of_small_name, begins_name}
 use Rattle.cred_captext.specs.Meaning.{none, after_operator, after_letter}
@@ -35,11 +35,11 @@ operator_of byte =
 
 -- ---- steps
 
-abbrev pub reader : Sets → Caps → Place → Reader
+abbrev pub reader : Sets → Caps → TextPlace → Reader
 reader s list place = record { sets = s; list = list; place = place }
 
 -- behind an operator: `=` needs no letter
-abbrev pub place_after : Operator → Place
+abbrev pub place_after : Operator → TextPlace
 place_after Reset = Letters Reset
 place_after Raise = Sign Raise
 place_after Lower = Sign Lower
@@ -57,7 +57,7 @@ lettered s list operator byte =
     (letter_of byte)
 
 -- a byte more of the word `all`
-abbrev pub word : Sets → Place → ℕ → Option Reader
+abbrev pub word : Sets → TextPlace → ℕ → Option Reader
 word s place byte = if byte == 108 then Some (reader s full place) else None
 
 -- behind a name
@@ -77,7 +77,7 @@ abbrev pub letter_or_operator : Sets → Caps → Operator → ℕ → Option Re
 letter_or_operator s list operator byte =
     option_or (operated s list byte) (lettered s list operator byte)
 
-abbrev pub step_at : Sets → Caps → Place → ℕ → Option Reader
+abbrev pub step_at : Sets → Caps → TextPlace → ℕ → Option Reader
 step_at s list Start byte =
     if byte == 97 then Some (reader s full A)
     else if byte == 61 then operated s full byte
@@ -105,7 +105,7 @@ abbrev pub first_reader : Reader
 first_reader = reader none empty Start
 
 -- the sets, where a text may end
-abbrev pub sets_at : Sets → Place → Option Sets
+abbrev pub sets_at : Sets → TextPlace → Option Sets
 sets_at s (Letters operator) = Some s
 sets_at s Start = None
 sets_at s A = None

@@ -9,7 +9,7 @@ use cred_caps::CapSet;
 
 /// Where in a text a reader stands.
 #[derive(Drop, Debug)]
-pub enum Place {
+pub enum TextPlace {
     /// Before a clause.
     Start,
     /// Behind the `a` of the word `all`.
@@ -34,7 +34,7 @@ pub struct Reader {
     /// The list of the clause, as far as it is read.
     pub list: CapSet,
     /// Where it stands.
-    pub place: Place,
+    pub place: TextPlace,
 }
 
 impl Reader {
@@ -45,7 +45,7 @@ impl Reader {
         Reader {
             sets: Sets::none(),
             list: CapSet::empty(),
-            place: Place::Start,
+            place: TextPlace::Start,
         }
     }
 
@@ -54,7 +54,7 @@ impl Reader {
         ensures { result ≡ machine.sets_at_end self.now }
     {
         match self.place {
-            Place::Letters(_) => Some(self.sets),
+            TextPlace::Letters(_) => Some(self.sets),
             _ => None,
         }
     }
@@ -64,25 +64,25 @@ impl Reader {
         ensures { result ≡ machine.after_byte self.now byte }
     {
         match &self.place {
-            Place::Start => self.before_clause(byte),
-            Place::A => self.word(byte, Place::Al),
-            Place::Al => self.word(byte, Place::All),
-            Place::All => self.operated(CapSet::full(), byte),
-            Place::Name(prefix) => self.within_name(prefix, byte),
-            Place::Sign(operator) => self.lettered(*operator, byte),
-            Place::Letters(operator) => self.letter_or_operator(*operator, byte),
+            TextPlace::Start => self.before_clause(byte),
+            TextPlace::A => self.word(byte, TextPlace::Al),
+            TextPlace::Al => self.word(byte, TextPlace::All),
+            TextPlace::All => self.operated(CapSet::full(), byte),
+            TextPlace::Name(prefix) => self.within_name(prefix, byte),
+            TextPlace::Sign(operator) => self.lettered(*operator, byte),
+            TextPlace::Letters(operator) => self.letter_or_operator(*operator, byte),
         }
     }
 
     /// Before a clause: the word `all`, a name, or `=` for all.
     fn before_clause(&self, byte: u8) -> Option<Reader>
-        ensures { result ≡ machine.step_at self.now.sets self.now.list Place.Start byte }
+        ensures { result ≡ machine.step_at self.now.sets self.now.list TextPlace.Start byte }
     {
         match byte {
             b'a' => Some(Reader {
                 sets: self.sets,
                 list: CapSet::full(),
-                place: Place::A,
+                place: TextPlace::A,
             }),
             b'=' => self.operated(CapSet::full(), byte),
             _ => self.longer_name(CapSet::empty(), &Prefix::none(), byte),
@@ -90,7 +90,7 @@ impl Reader {
     }
 
     /// Within the word `all`.
-    fn word(&self, byte: u8, place: Place) -> Option<Reader>
+    fn word(&self, byte: u8, place: TextPlace) -> Option<Reader>
         ensures { result ≡ machine.word self.now.sets place byte }
     {
         if byte != b'l' {
@@ -118,7 +118,7 @@ impl Reader {
     /// Within a name: a byte more, or where it is whole a comma or an operator.
     fn within_name(&self, prefix: &Prefix, byte: u8) -> Option<Reader>
         ensures { result
-            ≡ machine.step_at self.now.sets self.now.list (Place.Name prefix.now) byte }
+            ≡ machine.step_at self.now.sets self.now.list (TextPlace.Name prefix.now) byte }
     {
         match prefix.cap() {
             Some(cap) => self.separated(self.list.with(cap), byte),
@@ -134,7 +134,7 @@ impl Reader {
             return Some(Reader {
                 sets: self.sets,
                 list,
-                place: Place::Name(Prefix::none()),
+                place: TextPlace::Name(Prefix::none()),
             });
         }
         self.operated(list, byte)
@@ -148,7 +148,7 @@ impl Reader {
         Some(Reader {
             sets: self.sets,
             list,
-            place: Place::Name(prefix),
+            place: TextPlace::Name(prefix),
         })
     }
 
@@ -160,20 +160,20 @@ impl Reader {
         Some(Reader {
             sets: self.sets.after_letter(self.list, operator, letter),
             list: self.list,
-            place: Place::Letters(operator),
+            place: TextPlace::Letters(operator),
         })
     }
 
     /// Behind an action, or within one: a letter more, another action, or another clause.
     fn letter_or_operator(&self, operator: Operator, byte: u8) -> Option<Reader>
         ensures { result
-            ≡ machine.step_at self.now.sets self.now.list (Place.Letters operator) byte }
+            ≡ machine.step_at self.now.sets self.now.list (TextPlace.Letters operator) byte }
     {
         match byte {
             b' ' => Some(Reader {
                 sets: self.sets,
                 list: CapSet::empty(),
-                place: Place::Start,
+                place: TextPlace::Start,
             }),
             b'=' | b'+' | b'-' => self.operated(self.list, byte),
             _ => self.lettered(operator, byte),
@@ -182,11 +182,11 @@ impl Reader {
 }
 
 /// Behind an operator: `=` needs no letter.
-fn place_after(operator: Operator) -> Place
+fn place_after(operator: Operator) -> TextPlace
     ensures { result ≡ machine.place_after operator }
 {
     match operator {
-        Operator::Reset => Place::Letters(operator),
-        Operator::Raise | Operator::Lower => Place::Sign(operator),
+        Operator::Reset => TextPlace::Letters(operator),
+        Operator::Raise | Operator::Lower => TextPlace::Sign(operator),
     }
 }

@@ -56,7 +56,8 @@ joined_either xs x ys is =
 pub stays : (task : ℕ) (xs : List ℕ) → list_any (λ n. n == task) xs ≡ false → filter (λ n. not (n == task)) xs ≡ xs
 stays task [] none = refl
 stays task (n ∷ ns) none =
-    elim (n == task) as (λ b. ((b || list_any (λ m. m == task) ns) ≡ false) → cond (not b) (n ∷ filter (λ m. not (m == task)) ns) (filter (λ m. not (m == task)) ns) ≡ n ∷ ns) [
+    elim (n == task) as
+    (λ b. ((b || list_any (λ m. m == task) ns) ≡ false) → cond (not b) (n ∷ filter (λ m. not (m == task)) ns) (filter (λ m. not (m == task)) ns) ≡ n ∷ ns) [
       | true ↦ λ is. cc
       | false ↦ λ is. ap (λ ms. n ∷ ms) (stays task ns is)
     ] none

@@ -36,11 +36,13 @@ AllPairs-kept : {X : Type 0} (R : X → X → Type 0) (f : X → X) (xs : List X
 AllPairs-kept R f xs keeps each = AllPairs-map R f xs (AllPairs-weaker R (λ x y. R (f x) (f y)) xs keeps each)
 
 -- of the broadcast that is found under a number
-pub open_under : (broadcasts : List Broadcast) (number : ℕ) (broadcast : Broadcast) → broadcast_under broadcasts number ≡ Some broadcast → AreBroadcasts broadcasts
+pub open_under : (broadcasts : List Broadcast) (number : ℕ) (broadcast : Broadcast) → broadcast_under broadcasts number ≡ Some broadcast
+    → AreBroadcasts broadcasts
     → IsOpen broadcast
 open_under broadcasts number broadcast is are = (found IsOpen (λ c. c.number == number) broadcasts broadcast is are.some).0
 
-pub rising_under : (broadcasts : List Broadcast) (number : ℕ) (broadcast : Broadcast) → broadcast_under broadcasts number ≡ Some broadcast → AreBroadcasts broadcasts
+pub rising_under : (broadcasts : List Broadcast) (number : ℕ) (broadcast : Broadcast) → broadcast_under broadcasts number ≡ Some broadcast
+    → AreBroadcasts broadcasts
     → IsRising broadcast
 rising_under broadcasts number broadcast is are = (found IsRising (λ c. c.number == number) broadcasts broadcast is are.rising).0
 

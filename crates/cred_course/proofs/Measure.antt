@@ -155,7 +155,8 @@ id_falls task call course Acting event answer before now here is waits =
     let none : more_wait event ≡ 0 = ap more_wait (sym same) in
     let was = ahead_is content course Acting here in
     subst (λ c. ahead content c + now < ahead content course + before) (sym (after_is content course Acting answer here))
-    (elim (some_wait answer) as (λ b. some_wait answer ≡ b → ahead content (record course { stage = cond b (Some Acting) None }) + now < ahead content course + before) [
+    (elim (some_wait answer) as
+    (λ b. some_wait answer ≡ b → ahead content (record course { stage = cond b (Some Acting) None }) + now < ahead content course + before) [
       | true ↦ λ left. omega (arith, was, waits.lowered course.line (sym same) left)
       | false ↦ λ left. omega (arith, was, none, waits.raised)
     ] refl)

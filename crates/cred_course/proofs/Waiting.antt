@@ -61,7 +61,8 @@ one_less task (n ∷ ns) there = by (n == task) there (one_less task ns)
         omega (arith, length-filter test ns, count_by-le-length test ns)
     by false there rest = let less = rest there in omega (arith, less)
 
-less-without : (task number : ℕ) (broadcasts : List Broadcast) (broadcast : Broadcast) → find (λ b. b.number == number) broadcasts ≡ Some broadcast → waits_in task broadcast ≡ true
+less-without : (task number : ℕ) (broadcasts : List Broadcast) (broadcast : Broadcast) → find (λ b. b.number == number) broadcasts ≡ Some broadcast
+    → waits_in task broadcast ≡ true
     → waiting_in (map (without_waiter task) broadcasts) < waiting_in broadcasts
 less-without task number [] broadcast found there = cc
 less-without task number (b ∷ bs) broadcast found there = by (b.number == number) found (λ later. less-without task number bs broadcast later there)
@@ -82,14 +83,16 @@ less-without task number (b ∷ bs) broadcast found there = by (b.number == numb
         omega (arith, less, now, before, fewer-without task b)
 
 -- A task that waits makes its step: one waits less at least.
-pub waiting-acted : (task number : ℕ) (broadcasts : List Broadcast) (broadcast : Broadcast) → find (λ b. b.number == number) broadcasts ≡ Some broadcast → waits_in task broadcast ≡ true
+pub waiting-acted : (task number : ℕ) (broadcasts : List Broadcast) (broadcast : Broadcast) → find (λ b. b.number == number) broadcasts ≡ Some broadcast
+    → waits_in task broadcast ≡ true
     → waiting_in (waits_no_more task broadcasts) < waiting_in broadcasts
 waiting-acted task number broadcasts broadcast found there =
     omega (arith, waiting-filter is_open (map (without_waiter task) broadcasts), less-without task number broadcasts broadcast found there)
 
 -- ---- tasks that begin to wait
 
-pub waiting-begun : (broadcasts : List Broadcast) (broadcast : Broadcast) → waiting_in (with_broadcast broadcasts broadcast) ≤ waiting_in broadcasts + length broadcast.waiting
+pub waiting-begun : (broadcasts : List Broadcast) (broadcast : Broadcast)
+    → waiting_in (with_broadcast broadcasts broadcast) ≤ waiting_in broadcasts + length broadcast.waiting
 waiting-begun broadcasts broadcast =
     let all = sum_by-append waits broadcasts (filter is_open (broadcast ∷ [])) in
     let most = waiting-filter is_open (broadcast ∷ []) in
@@ -97,7 +100,8 @@ waiting-begun broadcasts broadcast =
     omega (arith, all, most, one)
 
 -- A new thread waits in one broadcast at most, since its creator does.
-pub waiting-joined : (parent child : ℕ) (broadcasts : List Broadcast) → AllPairs SharesNone broadcasts → waiting_in (joined parent child broadcasts) ≤ waiting_in broadcasts + 1
+pub waiting-joined : (parent child : ℕ) (broadcasts : List Broadcast) → AllPairs SharesNone broadcasts
+    → waiting_in (joined parent child broadcasts) ≤ waiting_in broadcasts + 1
 waiting-joined parent child [] apart = omega arith
 waiting-joined parent child (b ∷ bs) apart =
     by (waits_in parent b) refl (waiting-joined parent child bs (AllPairs-tail SharesNone b bs apart))

@@ -28,7 +28,8 @@ use Rattle.cred_model.specs.Step.{aborted, follow, outcome, step}
 use Rattle.cred_model.proofs.Rising.{length-in_order}
 use Rattle.cred_sound.specs.Sound.{IsSound}
 use Rattle.cred_sound.proofs.Tests.{in_slots}
-use Rattle.cred_sound.proofs.Parts.{TasksChange, Cause, Creation, Death, begun, broadcasts_left, ByBegin, ByAct, ByRaw, ByCommit, BySpawn, ByFork, ByExit, ByAbort}
+use Rattle.cred_sound.proofs.Parts.{TasksChange, Cause, Creation, Death, begun, broadcasts_left, ByBegin, ByAct, ByRaw, ByCommit, BySpawn, ByFork, ByExit}
+use Rattle.cred_sound.proofs.Parts.{ByAbort}
 use Rattle.cred_sound.proofs.Parts.{SameTasks, SetsFlag, Creates, Shares, Renews, Overrides, Fewer}
 use Rattle.cred_sound.proofs.Events.{changes}
 use Rattle.cred_cast.proofs.Conditions.{broadcasts_are, least_waits}
@@ -137,7 +138,10 @@ follow_lowers s number task broadcast owner old (Ok new) opened first =
     in_slots (Lowers s) s (λ now. (Aborted task cause.Full, aborted broadcast now))
     (λ now slot. (
       Acted task (length now.creds) slot (length broadcast.waiting - 1),
-      record (replaced now task old.number new slot) { broadcasts = waits_no_more task now.broadcasts; dumpable = renewed now.dumpable owner.process (differs old.cred new) },
+      record (replaced now task old.number new slot) {
+        broadcasts = waits_no_more task now.broadcasts;
+        dumpable = renewed now.dumpable owner.process (differs old.cred new);
+      },
     ))
     (λ left fewer waits. cc)
     (λ left slot fewer free waits. waiting-acted task number s.broadcasts broadcast opened (least_waits broadcast task first))

@@ -83,7 +83,8 @@ idle s (Some broadcast) f fits range each = (fits.0, range)
 pub own : (s : State) (t : Task) (f : Unit {0} → Result (Answer × State) Answer) → FitsTask t → IsInRange s → Gives s (f tt)
     → Gives s (not_overridden t >>= f)
 own s t f fits range each =
-    elim (length t.overrides == 0) as (λ b. Gives s (let r : Result (Unit {0}) Answer = cond b (Ok tt) (Err (answer.Overridden (length t.overrides))) in r >>= f)) [
+    elim (length t.overrides == 0) as
+    (λ b. Gives s (let r : Result (Unit {0}) Answer = cond b (Ok tt) (Err (answer.Overridden (length t.overrides))) in r >>= f)) [
       | true ↦ each
       | false ↦ (let few = fits.1 in omega (arith, few), range)
     ]

@@ -41,12 +41,12 @@ use Rattle.cred_model.specs.Change.{Made, by_rule, made_by_rule, made_by_execve,
 use Rattle.cred_model.specs.Casts.{others_of, with_broadcast, waits_no_more}
 use Rattle.cred_model.specs.Dumpable.{differs, renewed, set_flag, flags_begun, flags_committed}
 use Rattle.cred_model.specs.Ends.{ended, is_thread_of}
-use Rattle.cred_model.specs.Moves.{in_slot, table_full, first_task, created, replaced}
-use Rattle.cred_model.specs.Moves.{preparing, altered, committed, given_up}
+use Rattle.cred_model.specs.Moves.{in_slot, table_full, first_task, created, replaced, preparing, altered, committed, given_up}
 use Rattle.cred_model.specs.Named.{query_files, change_files}
 use Rattle.cred_model.specs.Script.{Script, chain_of, root_of}
 use Rattle.cred_model.specs.Slots.{swept_if_full, free}
-use Rattle.cred_model.specs.State.{State, Task, Numbered, Prepared, Changed, Broadcast, numbered, task_of, broadcast_of, broadcast_in, begun_by, open_of, hold_of}
+use Rattle.cred_model.specs.State.{State, Task, Numbered, Prepared, Changed, Broadcast, numbered, task_of, broadcast_of, broadcast_in, begun_by, open_of}
+use Rattle.cred_model.specs.State.{hold_of}
 use Rattle.cred_model.specs.State.{prepared_of, credential_of, opener_of, held_by, info_of}
 use Rattle.cred_model.specs.Step.{outcome, by_init, take_hold, by_take, by_take_file, by_release, by_ask, by_signal, by_prepare, by_alter, for_task, try_commit}
 use Rattle.cred_model.specs.Step.{ends_with, broadcasts_after, committed_by, commit_answer, by_commit, by_abort, for_access, override_held, override_prepared}
@@ -82,8 +82,10 @@ of_init s task process user group ns root =
     none_case Q (task_of s task) _ _ refl (λ new.
     test_case Q (nat_lt (length s.tasks) TASKS) _ _ refl
     (slot_tells rows.init_row s table_full
-    (λ t slot.
-    (answer.Sealed (length t.creds) slot, record (created t (first_task task process (length t.creds)) (first_credential user group ns root) slot) { dumpable = flags_begun t process }))
+    (λ t slot. (
+      answer.Sealed (length t.creds) slot,
+      record (created t (first_task task process (length t.creds)) (first_credential user group ns root) slot) { dumpable = flags_begun t process },
+    ))
     (λ t. refl) (λ t slot. refl))))
 
 of_hold : (row : Answer → Bool) (s : State) (label : ℕ) (taken : Numbered) → row (answer.Exists named.Label label) ≡ true
@@ -317,8 +319,10 @@ of_raw s task call =
     own_case Q owner _ (λ depth. refl)
     (of_raw_made s call (set_id old.cred call) _ (of_call old.cred call) (λ made valid.
     slot_tells row s table_full
-    (λ t slot.
-    (answer.Sealed (length t.creds) slot, record (replaced t task old.number made slot) { dumpable = renewed t.dumpable owner.process (differs old.cred made) }))
+    (λ t slot. (
+      answer.Sealed (length t.creds) slot,
+      record (replaced t task old.number made slot) { dumpable = renewed t.dumpable owner.process (differs old.cred made) },
+    ))
     (λ t. ap not valid) (λ t slot. ap not valid))))))
 
 of_begin : (s : State) (line task : ℕ) (call : IdCall) → Tells (call_rows.begin_row call) s (by_begin s line task call)
@@ -334,8 +338,13 @@ of_begin s line task call =
     let others = others_of owner s.tasks in
     let broadcast : Broadcast = record { number = line; process = owner.process; caller = task; call = call; waiting = others } in
     slot_tells row s table_full
-    (λ t slot.
-    (answer.Began (length t.creds) slot (length others), record (replaced t task old.number made slot) { broadcasts = with_broadcast t.broadcasts broadcast; dumpable = renewed t.dumpable owner.process (differs old.cred made) }))
+    (λ t slot. (
+      answer.Began (length t.creds) slot (length others),
+      record (replaced t task old.number made slot) {
+        broadcasts = with_broadcast t.broadcasts broadcast;
+        dumpable = renewed t.dumpable owner.process (differs old.cred made);
+      },
+    ))
     (λ t. ap not valid) (λ t slot. ap not valid)))))))
 
 followed : (s : State) (broadcast : Broadcast) (task : ℕ) (owner : Task) (old : Numbered) (r : Result Credential Answer)
@@ -344,8 +353,13 @@ followed s broadcast task owner old (Err refused) = refl
 followed s broadcast task owner old (Ok made) =
     slot_tells rows.act_row s
     (λ t. (answer.Aborted task cause.Full, aborted broadcast t))
-    (λ t slot.
-    (answer.Acted task (length t.creds) slot (length broadcast.waiting - 1), record (replaced t task old.number made slot) { broadcasts = waits_no_more task t.broadcasts; dumpable = renewed t.dumpable owner.process (differs old.cred made) }))
+    (λ t slot. (
+      answer.Acted task (length t.creds) slot (length broadcast.waiting - 1),
+      record (replaced t task old.number made slot) {
+        broadcasts = waits_no_more task t.broadcasts;
+        dumpable = renewed t.dumpable owner.process (differs old.cred made);
+      },
+    ))
     (λ t. refl) (λ t slot. refl)
 
 of_act : (s : State) (number : ℕ) → Tells rows.act_row s (by_act s number)
@@ -451,7 +465,8 @@ of_chown s hold place owner group =
     some_case Q (held_by s hold) _ _ refl (λ held is.
     some_case Q (slice_get s.infos place) _ _ refl (λ old there.
     let does : File → Result (Answer × State) Answer = λ new. Ok (answer.Done, record s { infos = slice_set s.infos place new }) in
-    elim (may_chown held.cred old owner group) as (λ b. may_chown held.cred old owner group ≡ b → Q (by_rule (cond b (Ok (chowned old owner group)) (Err Perm)) >>= does)) [
+    elim (may_chown held.cred old owner group) as
+    (λ b. may_chown held.cred old owner group ≡ b → Q (by_rule (cond b (Ok (chowned old owner group)) (Err Perm)) >>= does)) [
       | true ↦ λ may. refl
       | false ↦ λ no. refused_gives (capable held.cred CHOWN) (gives_one owner group) (may_as_owner held.cred old owner group) no
     ] refl))
@@ -475,7 +490,8 @@ of_set_attr s hold place attr =
     some_case Q (held_by s hold) _ _ refl (λ held is.
     some_case Q (slice_get s.infos place) _ _ refl (λ old there.
     let does : File → Result (Answer × State) Answer = λ new. Ok (answer.Done, record s { infos = slice_set s.infos place new }) in
-    elim (capable held.cred SETFCAP) as (λ a. Q (by_rule (cond (not a) (Err Perm) (cond (not (is_attr attr)) (Err Invalid) (Ok (record old { attr = attr })))) >>= does)) [
+    elim (capable held.cred SETFCAP) as
+    (λ a. Q (by_rule (cond (not a) (Err Perm) (cond (not (is_attr attr)) (Err Invalid) (Ok (record old { attr = attr })))) >>= does)) [
       | true ↦ elim (is_attr attr) as (λ b. is_attr attr ≡ b → Q (by_rule (cond (not b) (Err Invalid) (Ok (record old { attr = attr }))) >>= does)) [
         | true ↦ λ one. one
         | false ↦ λ none. ap not none

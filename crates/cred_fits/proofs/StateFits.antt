@@ -31,13 +31,13 @@ use Rattle.cred_model.specs.Casts.{waits_no_more, joined, with_child, without_wa
 use Rattle.cred_model.specs.Change.{Made, by_rule}
 use Rattle.cred_model.specs.Dumpable.{flags_begun, flags_committed, flag_of_value}
 use Rattle.cred_model.specs.Ends.{ended, survivors}
-use Rattle.cred_model.specs.Moves.{table_full, first_task, created, preparing, altered}
-use Rattle.cred_model.specs.Moves.{committed, given_up, with_current, updated, with_overrides}
+use Rattle.cred_model.specs.Moves.{table_full, first_task, created, preparing, altered, committed, given_up, with_current, updated, with_overrides}
 use Rattle.cred_model.specs.Moves.{overriding, with_change, relabelled}
 use Rattle.cred_model.specs.Named.{query_files, change_files}
 use Rattle.cred_model.specs.Script.{Script, chain_of}
 use Rattle.cred_model.specs.Slots.{refs}
-use Rattle.cred_model.specs.State.{State, SealedCred, Task, Numbered, Prepared, Changed, Broadcast, numbered, number_on, task_of, broadcast_in, begun_by, open_of}
+use Rattle.cred_model.specs.State.{State, SealedCred, Task, Numbered, Prepared, Changed, Broadcast, numbered, number_on, task_of, broadcast_in, begun_by}
+use Rattle.cred_model.specs.State.{open_of}
 use Rattle.cred_model.specs.State.{hold_of, prepared_of, credential_of, opener_of, held_by, info_of}
 use Rattle.cred_model.specs.Step.{by_init, take_hold, by_take, by_take_file, by_release, by_ask, by_signal, by_prepare, by_alter, is_access, for_task}
 use Rattle.cred_model.specs.Step.{try_commit, ends_with, broadcasts_after, committed_by, commit_answer, by_commit, by_dumpable, by_dumped, by_ptrace, by_file}
@@ -54,7 +54,8 @@ use Rattle.cred_reader.specs.Fits.{IsNumber, IsLong, FitsChange, FitsEvent, Fits
 use Rattle.cred_fits.specs.Content.{FitsFile}
 use Rattle.cred_fits.proofs.CredFits.{FitsCred}
 use Rattle.cred_fits.proofs.ChangeFits.{FitsMade, first_fits, change_made_fits}
-use Rattle.cred_fits.proofs.Ranges.{FitsSealed, FitsTask, FitsBroadcast, FitsChanged, FitsPrepared, AreInRange, IsInRange, Good, Gives, some_fits, IsFound, is_found}
+use Rattle.cred_fits.proofs.Ranges.{FitsSealed, FitsTask, FitsBroadcast, FitsChanged, FitsPrepared, AreInRange, IsInRange, Good, Gives, some_fits, IsFound}
+use Rattle.cred_fits.proofs.Ranges.{is_found}
 use Rattle.cred_fits.proofs.Ranges.{found_by, idle, own}
 
 -- what is known of a state before an event
@@ -87,7 +88,8 @@ pub survivors_fit : (ends : Task → Bool) (tasks : List Task) → All FitsTask 
 survivors_fit ends tasks all = All-passed (λ t. not (ends t)) FitsTask FitsTask tasks (λ t test h. h) all
 
 pub dropped_fit : (process : ℕ) (broadcasts : List Broadcast) → All FitsBroadcast broadcasts → All FitsBroadcast (dropped process broadcasts)
-dropped_fit process broadcasts all = All-passed (λ (broadcast : Broadcast). not (broadcast.process == process)) FitsBroadcast FitsBroadcast broadcasts (λ b test h. h) all
+dropped_fit process broadcasts all =
+    All-passed (λ (broadcast : Broadcast). not (broadcast.process == process)) FitsBroadcast FitsBroadcast broadcasts (λ b test h. h) all
 
 without_fits : (task : ℕ) (broadcast : Broadcast) → FitsBroadcast broadcast → FitsBroadcast (without_waiter task broadcast)
 without_fits task broadcast fits = (fits.0, fits.1, All-passed (λ n. not (n == task)) IsNumber IsNumber broadcast.waiting (λ n test h. h) fits.2)
@@ -103,7 +105,8 @@ child_fits parent child broadcast small fits = by (waits_in parent broadcast)
     by true = (fits.0, fits.1, All-in_order IsNumber _ (All-push IsNumber broadcast.waiting child fits.2 small))
     by false = fits
 
-pub joined_fit : (parent child : ℕ) (broadcasts : List Broadcast) → IsNumber child → All FitsBroadcast broadcasts → All FitsBroadcast (joined parent child broadcasts)
+pub joined_fit : (parent child : ℕ) (broadcasts : List Broadcast) → IsNumber child → All FitsBroadcast broadcasts
+    → All FitsBroadcast (joined parent child broadcasts)
 joined_fit parent child broadcasts small all = All-kept FitsBroadcast (with_child parent child) broadcasts (λ b h. child_fits parent child b small h) all
 
 pub prepared_at : (s : State) (place : ℕ) (p : Prepared) → IsInRange s → slice_get s.prepared place ≡ Some p → FitsPrepared p

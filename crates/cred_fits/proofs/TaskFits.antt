@@ -28,7 +28,8 @@ use Rattle.cred_model.specs.Dumpable.{differs, renewed}
 use Rattle.cred_model.specs.Ends.{is_thread_of, is_beside, is_task}
 use Rattle.cred_model.specs.Moves.{table_full, first_task, replaced}
 use Rattle.cred_model.specs.Script.{Script, root_of}
-use Rattle.cred_model.specs.State.{State, Task, Numbered, Prepared, Changed, Broadcast, numbered, task_of, broadcast_of, broadcast_in, begun_by, open_of, hold_of}
+use Rattle.cred_model.specs.State.{State, Task, Numbered, Prepared, Changed, Broadcast, numbered, task_of, broadcast_of, broadcast_in, begun_by, open_of}
+use Rattle.cred_model.specs.State.{hold_of}
 use Rattle.cred_model.specs.State.{held_by, info_of}
 use Rattle.cred_model.specs.Step.{step, is_access, by_abort, for_access, override_held, override_prepared, by_override, by_revert, by_begin, aborted, follow}
 use Rattle.cred_model.specs.Step.{by_act, by_open, by_close, by_spawn, by_fork, by_exit, by_raw}
@@ -42,7 +43,8 @@ use Rattle.cred_sound.proofs.Parts.{with_left}
 use Rattle.cred_reader.specs.Fits.{IsNumber, FitsCall, FitsEvent}
 use Rattle.cred_reader.proofs.Spelled.{Holds}
 use Rattle.cred_fits.proofs.CredFits.{FitsCred, call_made_fits}
-use Rattle.cred_fits.proofs.Ranges.{FitsTask, FitsBroadcast, FitsChanged, FitsPrepared, IsInRange, Good, Gives, some_fits, IsFound, is_found, found_by, idle, own}
+use Rattle.cred_fits.proofs.Ranges.{FitsTask, FitsBroadcast, FitsChanged, FitsPrepared, IsInRange, Good, Gives, some_fits, IsFound, is_found, found_by, idle}
+use Rattle.cred_fits.proofs.Ranges.{own}
 use Rattle.cred_fits.proofs.Ranges.{fewer}
 use Rattle.cred_fits.proofs.StateFits.{IsKnown, slot_number, with_cred, current_fits, overrides_fit, survivors_fit, dropped_fit, left_fit, joined_fit}
 use Rattle.cred_fits.proofs.StateFits.{prepared_at, owner_fits, found_answer, without_label, of_init, of_take, of_take_file, of_release, of_ask, of_signal}
@@ -133,7 +135,8 @@ others_fit owner tasks all =
     All-in_order IsNumber _ (All-map IsNumber (λ (t : Task). t.number) (filter (is_beside owner) tasks)
     (All-passed (is_beside owner) FitsTask (λ t. IsNumber t.number) tasks (λ t test h. h.0) all))
 
-broadcast_more : (broadcasts : List Broadcast) (broadcast : Broadcast) → All FitsBroadcast broadcasts → FitsBroadcast broadcast → All FitsBroadcast (with_broadcast broadcasts broadcast)
+broadcast_more : (broadcasts : List Broadcast) (broadcast : Broadcast) → All FitsBroadcast broadcasts → FitsBroadcast broadcast
+    → All FitsBroadcast (with_broadcast broadcasts broadcast)
 broadcast_more broadcasts broadcast all fits =
     All-append FitsBroadcast broadcasts (filter is_open (broadcast ∷ [])) all
     (All-passed is_open FitsBroadcast FitsBroadcast (broadcast ∷ []) (λ b test h. h) (All-cons FitsBroadcast broadcast [] fits (All-nil FitsBroadcast)))
@@ -159,7 +162,10 @@ of_begin s line task call known n t fits =
     in_slots Good s table_full
     (λ t slot. (
       answer.Began (length t.creds) slot (length others),
-      record (replaced t task old.number made slot) { broadcasts = with_broadcast t.broadcasts broadcast; dumpable = renewed t.dumpable owner.process (differs old.cred made) },
+      record (replaced t task old.number made slot) {
+        broadcasts = with_broadcast t.broadcasts broadcast;
+        dumpable = renewed t.dumpable owner.process (differs old.cred made);
+      },
     ))
     (λ left less. (tt, range))
     (λ left slot less free. (
@@ -200,7 +206,10 @@ followed s broadcast task owner old (Ok made) known t few h =
     (λ t. (answer.Aborted task cause.Full, aborted broadcast t))
     (λ t slot. (
       answer.Acted task (length t.creds) slot (length broadcast.waiting - 1),
-      record (replaced t task old.number made slot) { broadcasts = waits_no_more task t.broadcasts; dumpable = renewed t.dumpable owner.process (differs old.cred made) },
+      record (replaced t task old.number made slot) {
+        broadcasts = waits_no_more task t.broadcasts;
+        dumpable = renewed t.dumpable owner.process (differs old.cred made);
+      },
     ))
     (λ left less. (t, aborted_range broadcast (with_left s left) range))
     (λ left slot less free. (
@@ -219,7 +228,8 @@ of_act s number known n =
     some_case (Gives s) (broadcast_of s number) _ _ (n, range) (λ broadcast is.
     let fits = some_fits FitsBroadcast (broadcast_of s number) broadcast (find_each FitsBroadcast (λ b. b.number == number) s.broadcasts range.broadcasts) is in
     let way =
-    some_fits (IsUnderWay s.tasks) (broadcast_of s number) broadcast (find_each (IsUnderWay s.tasks) (λ b. b.number == number) s.broadcasts known.sound.under_way) is in
+    some_fits (IsUnderWay s.tasks) (broadcast_of s number) broadcast
+    (find_each (IsUnderWay s.tasks) (λ b. b.number == number) s.broadcasts known.sound.under_way) is in
     some_case (Gives s) (slice_get broadcast.waiting 0) _ _ (n, range) (λ task at.
     some_case (Gives s) (task_of s task) _ _ (n, range) (λ owner found.
     some_case (Gives s) (numbered s.creds owner.current) _ _ (n, range) (λ old there.

@@ -23,18 +23,25 @@ use Rattle.cred_ids.specs.Tests.{◌>>=◌}
 each : (P : List ℕ → Type 0) → P (codes "t1 setresuid 0 0 0") → P (codes "t1 keepcaps 1") → P (codes "t1 capable 21")
     → P (codes "t1 setfsuid 1000") → P (codes "t1 ambraise 0") → (remainder : ℕ) → P (call_by remainder)
 each P a b c d e remainder =
-    elim (remainder == 1) as (λ w. P (cond w (codes "t1 setresuid 0 0 0") (cond (remainder == 2) (codes "t1 keepcaps 1") (cond (remainder == 3) (codes "t1 capable 21") (cond (remainder == 4) (codes "t1 setfsuid 1000") (codes "t1 ambraise 0")))))) [
+    elim (remainder == 1) as
+    (λ w. P (cond w (codes "t1 setresuid 0 0 0") (cond (remainder == 2) (codes "t1 keepcaps 1")
+    (cond (remainder == 3) (codes "t1 capable 21") (cond (remainder == 4) (codes "t1 setfsuid 1000") (codes "t1 ambraise 0")))))) [
       | true ↦ a
-      | false ↦ elim (remainder == 2) as (λ w. P (cond w (codes "t1 keepcaps 1") (cond (remainder == 3) (codes "t1 capable 21") (cond (remainder == 4) (codes "t1 setfsuid 1000") (codes "t1 ambraise 0"))))) [
-        | true ↦ b
-        | false ↦ elim (remainder == 3) as (λ w. P (cond w (codes "t1 capable 21") (cond (remainder == 4) (codes "t1 setfsuid 1000") (codes "t1 ambraise 0")))) [
-          | true ↦ c
-          | false ↦ elim (remainder == 4) as (λ w. P (cond w (codes "t1 setfsuid 1000") (codes "t1 ambraise 0"))) [
-            | true ↦ d
-            | false ↦ e
+      | false ↦
+          elim (remainder == 2) as
+          (λ w. P (cond w (codes "t1 keepcaps 1")
+          (cond (remainder == 3) (codes "t1 capable 21") (cond (remainder == 4) (codes "t1 setfsuid 1000") (codes "t1 ambraise 0"))))) [
+            | true ↦ b
+            | false ↦
+                elim (remainder == 3) as
+                (λ w. P (cond w (codes "t1 capable 21") (cond (remainder == 4) (codes "t1 setfsuid 1000") (codes "t1 ambraise 0")))) [
+                  | true ↦ c
+                  | false ↦ elim (remainder == 4) as (λ w. P (cond w (codes "t1 setfsuid 1000") (codes "t1 ambraise 0"))) [
+                    | true ↦ d
+                    | false ↦ e
+                  ]
+                ]
           ]
-        ]
-      ]
     ]
 
 -- ---- each line is accepted

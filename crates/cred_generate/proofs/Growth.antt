@@ -38,12 +38,12 @@ use Rattle.cred_model.specs.Casts.{others_of, with_broadcast, waits_no_more}
 use Rattle.cred_model.specs.Change.{Made, by_rule, made_by_rule, made_by_execve, made_by_exec, by_change}
 use Rattle.cred_model.specs.Dumpable.{differs, renewed, flags_begun, flags_committed, flag_of_value}
 use Rattle.cred_model.specs.Ends.{ended, is_thread_of}
-use Rattle.cred_model.specs.Moves.{in_slot, table_full, first_task, created, replaced}
-use Rattle.cred_model.specs.Moves.{preparing, altered, committed, given_up}
+use Rattle.cred_model.specs.Moves.{in_slot, table_full, first_task, created, replaced, preparing, altered, committed, given_up}
 use Rattle.cred_model.specs.Named.{query_files, change_files}
 use Rattle.cred_model.specs.Script.{Script, chain_of, root_of}
 use Rattle.cred_model.specs.Slots.{swept_if_full, free, least_free, swept}
-use Rattle.cred_model.specs.State.{State, SealedCred, Task, Numbered, Prepared, Changed, Broadcast, ProcessFlag, numbered, number_on, task_of, broadcast_of, broadcast_in}
+use Rattle.cred_model.specs.State.{State, SealedCred, Task, Numbered, Prepared, Changed, Broadcast, ProcessFlag, numbered, number_on, task_of, broadcast_of}
+use Rattle.cred_model.specs.State.{broadcast_in}
 use Rattle.cred_model.specs.State.{begun_by, open_of, hold_of, prepared_of, credential_of, opener_of, held_by, info_of}
 use Rattle.cred_model.specs.Step.{done, outcome, by_init, take_hold, by_take, by_take_file, by_release, by_ask, by_signal, by_prepare, by_alter, for_task}
 use Rattle.cred_model.specs.Step.{try_commit, ends_with, broadcasts_after, committed_by, commit_answer, by_commit, by_abort, for_access, override_held}
@@ -309,18 +309,25 @@ of_begin s line task call =
     slot_counts s table_full
     (λ t slot. (
       answer.Began (length t.creds) slot (length others),
-      record (replaced t task old.number made slot) { broadcasts = with_broadcast t.broadcasts broadcast; dumpable = renewed t.dumpable owner.process (differs old.cred made) },
+      record (replaced t task old.number made slot) {
+        broadcasts = with_broadcast t.broadcasts broadcast;
+        dumpable = renewed t.dumpable owner.process (differs old.cred made);
+      },
     ))
     (λ t is. long s t is) (λ t slot is. next_of s t.creds (record { cred = made; slot = slot }) is)))))))
 
-followed : (s : State) (broadcast : Broadcast) (task : ℕ) (owner : Task) (old : Numbered) (r : Result Credential Answer) → Counts s (follow s broadcast task owner old r)
+followed : (s : State) (broadcast : Broadcast) (task : ℕ) (owner : Task) (old : Numbered) (r : Result Credential Answer)
+    → Counts s (follow s broadcast task owner old r)
 followed s broadcast task owner old (Err refused) = refl
 followed s broadcast task owner old (Ok made) =
     slot_counts s
     (λ t. (answer.Aborted task cause.Full, aborted broadcast t))
     (λ t slot. (
       answer.Acted task (length t.creds) slot (length broadcast.waiting - 1),
-      record (replaced t task old.number made slot) { broadcasts = waits_no_more task t.broadcasts; dumpable = renewed t.dumpable owner.process (differs old.cred made) },
+      record (replaced t task old.number made slot) {
+        broadcasts = waits_no_more task t.broadcasts;
+        dumpable = renewed t.dumpable owner.process (differs old.cred made);
+      },
     ))
     (λ t is. long s t is) (λ t slot is. next_of s t.creds (record { cred = made; slot = slot }) is)
 

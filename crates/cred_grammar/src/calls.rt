@@ -13,7 +13,7 @@ use crate::records::record_of;
 use crate::refusal::LineRefusal;
 use cred_event::{Change, Content, Event};
 use cred_record::AdjCall;
-use cred_script::Files;
+use cred_script::DeclaredFiles;
 use cred_spelling::{
     CallName, Cap, Descriptor, Number, OtherName, Process, Reason, Task, call_name, id_name,
     no_words, one, two, word,
@@ -33,7 +33,7 @@ use std::alloc::Global;
 #[inline(never)]
 pub fn content_of(
     alloc: Global,
-    files: &Files,
+    files: &DeclaredFiles,
     task: u32,
     words: &[&[u8]],
 ) -> Result<Content, LineRefusal>
@@ -55,7 +55,7 @@ pub fn content_of(
 #[tactic(auto, unfolding(crate::specs::Calls::call_of))]
 fn call_of(
     alloc: Global,
-    files: &Files,
+    files: &DeclaredFiles,
     task: u32,
     name: CallName,
     words: &[&[u8]],
@@ -90,7 +90,7 @@ fn call_of(
 #[tactic(auto, unfolding(crate::specs::Calls::other_of))]
 fn other_of(
     alloc: Global,
-    files: &Files,
+    files: &DeclaredFiles,
     task: u32,
     name: OtherName,
     words: &[&[u8]],
@@ -189,7 +189,7 @@ fn raw_of(alloc: Global, task: u32, words: &[&[u8]]) -> Result<Content, LineRefu
 
 /// `open NAME WANT F`
 #[tactic(auto, unfolding(crate::specs::Calls::open_call))]
-fn open_call(files: &Files, task: u32, words: &[&[u8]]) -> Result<Content, Reason>
+fn open_call(files: &DeclaredFiles, task: u32, words: &[&[u8]]) -> Result<Content, Reason>
     ensures { Says (λ made. made) result (spec.open_call files.now task (nows words.now)) }
 {
     match words {

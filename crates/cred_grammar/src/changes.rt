@@ -7,7 +7,7 @@ use cred_caps::CapSet;
 use cred_event::Change;
 use cred_ids::Arg;
 use cred_record::AdjCall;
-use cred_script::Files;
+use cred_script::DeclaredFiles;
 use cred_spelling::{Cap, ChangeName, Number, Reason, bare, one, three};
 
 /// A change, by its name, with its arguments. A file is told by its place, from 0 to 256: the
@@ -18,7 +18,7 @@ use cred_spelling::{Cap, ChangeName, Number, Reason, bare, one, three};
 /// `Reason::Count` where the words are more or fewer than the change has, `Reason::Word` where one
 /// spells no argument.
 #[tactic(auto, unfolding(crate::specs::Changes::change_of))]
-pub fn change_of(files: &Files, name: ChangeName, words: &[&[u8]]) -> Result<Change, Reason>
+pub fn change_of(files: &DeclaredFiles, name: ChangeName, words: &[&[u8]]) -> Result<Change, Reason>
     ensures { Says (λ change. change) result (spec.change_of files.now name (nows words.now)) }
 {
     match name {
@@ -41,7 +41,7 @@ pub fn change_of(files: &Files, name: ChangeName, words: &[&[u8]]) -> Result<Cha
 
 /// `exec NAME`
 #[tactic(auto, unfolding(crate::specs::Changes::exec_of))]
-fn exec_of(files: &Files, words: &[&[u8]]) -> Result<Change, Reason>
+fn exec_of(files: &DeclaredFiles, words: &[&[u8]]) -> Result<Change, Reason>
     ensures { Says (λ change. change) result (spec.exec_of files.now (nows words.now)) }
 {
     match words {

@@ -8,7 +8,7 @@ use crate::refusal::LineRefusal;
 use cred_event::FileCall;
 use cred_ids::Arg;
 use cred_record::Attr;
-use cred_script::Files;
+use cred_script::DeclaredFiles;
 use cred_spelling::{FileCallName, Reason, bytes_of, mode_of, two};
 use std::alloc::Global;
 
@@ -23,7 +23,7 @@ use std::alloc::Global;
 #[tactic(auto, unfolding(crate::specs::FileCalls::file_call_of))]
 pub fn file_call_of(
     alloc: Global,
-    files: &Files,
+    files: &DeclaredFiles,
     name: FileCallName,
     words: &[&[u8]],
 ) -> Result<FileCall, LineRefusal>
@@ -46,7 +46,7 @@ pub fn file_call_of(
 
 /// `chown NAME ARG ARG`: the owner and the group.
 #[tactic(auto, unfolding(crate::specs::FileCalls::chown_of))]
-fn chown_of(files: &Files, words: &[&[u8]]) -> Result<FileCall, Reason>
+fn chown_of(files: &DeclaredFiles, words: &[&[u8]]) -> Result<FileCall, Reason>
     ensures { Says (λ call. call) result (spec.chown_of files.now (nows words.now)) }
 {
     match words {
@@ -61,7 +61,7 @@ fn chown_of(files: &Files, words: &[&[u8]]) -> Result<FileCall, Reason>
 
 /// `chmod NAME MODE`
 #[tactic(auto, unfolding(crate::specs::FileCalls::chmod_of))]
-fn chmod_of(files: &Files, words: &[&[u8]]) -> Result<FileCall, Reason>
+fn chmod_of(files: &DeclaredFiles, words: &[&[u8]]) -> Result<FileCall, Reason>
     ensures { Says (λ call. call) result (spec.chmod_of files.now (nows words.now)) }
 {
     match words {
@@ -78,7 +78,11 @@ fn chmod_of(files: &Files, words: &[&[u8]]) -> Result<FileCall, Reason>
 
 /// `setattr NAME HEX`
 #[tactic(auto, unfolding(crate::specs::FileCalls::set_attr_of))]
-fn set_attr_of(alloc: Global, files: &Files, words: &[&[u8]]) -> Result<FileCall, LineRefusal>
+fn set_attr_of(
+    alloc: Global,
+    files: &DeclaredFiles,
+    words: &[&[u8]],
+) -> Result<FileCall, LineRefusal>
     ensures { GivesLine (λ call. call) result (spec.set_attr_of files.now (nows words.now)) }
 {
     match words {
@@ -98,7 +102,7 @@ fn set_attr_of(alloc: Global, files: &Files, words: &[&[u8]]) -> Result<FileCall
 
 /// One file.
 #[tactic(auto, unfolding(crate::specs::FileCalls::file_alone))]
-fn file_alone(files: &Files, words: &[&[u8]]) -> Result<u32, Reason>
+fn file_alone(files: &DeclaredFiles, words: &[&[u8]]) -> Result<u32, Reason>
     ensures { Says (λ file. file) result (spec.file_alone files.now (nows words.now)) }
 {
     match words {

@@ -6,7 +6,7 @@ ghost use Rattle.cred_grammar.specs.ReadAnswers.{GivesLine};
 use crate::refusal::LineRefusal;
 use cred_ids::{Id, limits};
 use cred_record::{Attr, FileInfo, FileKind};
-use cred_script::{Files, ScriptFile};
+use cred_script::{DeclaredFiles, ScriptFile};
 use cred_spelling::{Reason, bytes_of, is, mode_of, name_of, three};
 use std::alloc::Global;
 
@@ -20,7 +20,7 @@ const MOST_WORDS: usize = 8;
 #[tactic(auto, unfolding(crate::specs::Files::file_of))]
 pub(crate) fn file_of(
     alloc: Global,
-    files: &Files,
+    files: &DeclaredFiles,
     words: &[&[u8]],
 ) -> Result<ScriptFile, LineRefusal>
     ensures { GivesLine (λ file. file) result (spec.file_of files.now (nows words.now)) }

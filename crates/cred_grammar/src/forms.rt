@@ -13,7 +13,7 @@ use crate::questions::query_named;
 use crate::refusal::LineRefusal;
 use cred_event::{Content, Event, Side};
 use cred_ids::Id;
-use cred_script::{Files, ScriptFile, event_actor};
+use cred_script::{DeclaredFiles, ScriptFile, event_actor};
 use cred_spelling::{
     Descriptor, EventName, Form, Label, LaneNumber, LineNumber, Namespace, NewNamespace, Parent,
     Process, Reason, Task, altered_name, five, id_name, no_words, one, three, two, word,
@@ -51,7 +51,7 @@ pub enum Parsed {
 #[tactic(auto, unfolding(crate::specs::Forms::parse_form))]
 pub fn parse_form(
     alloc: Global,
-    files: &Files,
+    files: &DeclaredFiles,
     form: Form,
     words: &[&[u8]],
 ) -> Result<Parsed, LineRefusal>
@@ -106,7 +106,7 @@ pub fn parse_form(
 #[inline(never)]
 pub fn event_of(
     alloc: Global,
-    files: &Files,
+    files: &DeclaredFiles,
     name: EventName,
     words: &[&[u8]],
 ) -> Result<Event, LineRefusal>
@@ -167,7 +167,7 @@ fn take_file_of(words: &[&[u8]]) -> Result<Event, LineRefusal>
 
 /// `ask H QUESTION`: the question is read before the label.
 #[tactic(auto, unfolding(crate::specs::Forms::ask_of))]
-fn ask_of(files: &Files, words: &[&[u8]]) -> Result<Event, LineRefusal>
+fn ask_of(files: &DeclaredFiles, words: &[&[u8]]) -> Result<Event, LineRefusal>
     ensures { GivesLine (λ event. event) result (spec.ask_of files.now (nows words.now)) }
 {
     match words {
@@ -182,7 +182,7 @@ fn ask_of(files: &Files, words: &[&[u8]]) -> Result<Event, LineRefusal>
 
 /// `change H CHANGE`, `change H access`: the change is read before the label.
 #[tactic(auto, unfolding(crate::specs::Forms::alter_of))]
-fn alter_of(files: &Files, words: &[&[u8]]) -> Result<Event, LineRefusal>
+fn alter_of(files: &DeclaredFiles, words: &[&[u8]]) -> Result<Event, LineRefusal>
     ensures { GivesLine (λ event. event) result (spec.alter_of files.now (nows words.now)) }
 {
     match words {

@@ -5,13 +5,13 @@ ghost use Rattle.cred_grammar.specs.Questions as spec;
 use crate::named::file_at;
 use cred_event::Query;
 use cred_record::Want;
-use cred_script::Files;
+use cred_script::DeclaredFiles;
 use cred_spelling::{Cap, QueryName, Reason, bare, one, query_name, word};
 
 /// `NAME WANT`: a file, by its place, and what is wanted of it.
 #[tactic(auto, unfolding(crate::specs::Questions::file_and_want))]
 #[inline(always)]
-pub(crate) fn file_and_want(files: &Files, words: &[&[u8]]) -> Result<(u32, Want), Reason>
+pub(crate) fn file_and_want(files: &DeclaredFiles, words: &[&[u8]]) -> Result<(u32, Want), Reason>
     ensures { Says (λ asked. asked) result (spec.file_and_want files.now (nows words.now)) }
 {
     match words {
@@ -28,7 +28,7 @@ pub(crate) fn file_and_want(files: &Files, words: &[&[u8]]) -> Result<(u32, Want
 /// `Reason::Word` where the word names no question or another spells no argument, `Reason::Count`
 /// where the words are more or fewer than the question has.
 #[tactic(auto, unfolding(crate::specs::Questions::query_named))]
-pub fn query_named(files: &Files, name: &[u8], words: &[&[u8]]) -> Result<Query, Reason>
+pub fn query_named(files: &DeclaredFiles, name: &[u8], words: &[&[u8]]) -> Result<Query, Reason>
     ensures { Says (λ query. query) result
         (spec.query_named files.now name.now (nows words.now)) }
 {
@@ -42,7 +42,11 @@ pub fn query_named(files: &Files, name: &[u8], words: &[&[u8]]) -> Result<Query,
 #[tactic(auto, unfolding(crate::specs::Questions::query_of))]
 // So that the question isn't put into memory on its way into the line.
 #[inline(always)]
-pub(crate) fn query_of(files: &Files, name: QueryName, words: &[&[u8]]) -> Result<Query, Reason>
+pub(crate) fn query_of(
+    files: &DeclaredFiles,
+    name: QueryName,
+    words: &[&[u8]],
+) -> Result<Query, Reason>
     ensures { Says (λ query. query) result (spec.query_of files.now name (nows words.now)) }
 {
     match name {

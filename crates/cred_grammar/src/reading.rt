@@ -21,7 +21,7 @@ use crate::refusal::{LineRefusal, ScriptRefusal};
 use crate::uses::{has_files, has_namespaces, may_change};
 use cred_event::Content;
 use cred_names::{Lanes, Namespaces};
-use cred_script::{Files, Script, ScriptLine, event_actor};
+use cred_script::{DeclaredFiles, Script, ScriptLine, event_actor};
 use cred_spelling::{EventName, Form, Reason, form_of, is_comment};
 use std::alloc::Global;
 use std::marker::Model;
@@ -29,7 +29,7 @@ use std::marker::Model;
 /// What was read of a script.
 #[derive(Drop)]
 pub(crate) struct Reading {
-    files: Files,
+    files: DeclaredFiles,
     namespaces: Namespaces,
     lines: Vec<ScriptLine>,
     /// A call, an event or a lane line stands there, so that nothing more may be declared.
@@ -61,7 +61,7 @@ impl Reading {
         ensures { result ≡ spec.nothing }
     {
         Reading {
-            files: Files::new(alloc),
+            files: DeclaredFiles::new(alloc),
             namespaces: Namespaces::new(alloc),
             lines: Vec::new(alloc),
             is_used: false,

@@ -7,7 +7,7 @@ ghost use Rattle.cred_grammar.specs.Reading as spec;
 
 use cred_event::{Change, Content, Event, FileCall, Query};
 use cred_names::{Lanes, Namespaces};
-use cred_script::Files;
+use cred_script::DeclaredFiles;
 
 /// Each namespace that the line names is declared.
 pub(crate) fn has_namespaces(declared: &Namespaces, content: &Content) -> bool
@@ -20,7 +20,7 @@ pub(crate) fn has_namespaces(declared: &Namespaces, content: &Content) -> bool
 }
 
 /// Each file that the line names is declared.
-pub(crate) fn has_files(declared: &Files, content: &Content) -> bool
+pub(crate) fn has_files(declared: &DeclaredFiles, content: &Content) -> bool
     ensures { result ≡ spec.has_files declared.now content.now }
 {
     match named_file(content) {

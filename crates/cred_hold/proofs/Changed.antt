@@ -8,16 +8,16 @@ use Rattle.cred_record.specs.Credential.{Credential, AreValidSets}
 use Rattle.cred_record.specs.Words.{pair, flags_word, group_count, are_ids, are_words, credential_in, words_of, IsCredential}
 use Rattle.cred_record.specs.declared.layout.TheConstants.{WORDS, INHERITABLE, BOUNDING, FLAGS, NAMESPACE, ROOT, GROUPS}
 use Rattle.cred_record.proofs.WordLemmas.{credential-is, credential-test, ids-are, all-groups, AllGroups, at_group, words-are, from_bool-small}
-use Rattle.cred_setid.specs.declared.parts.Parts.{Parts}
+use Rattle.cred_setid.specs.declared.parts.IdParts.{IdParts}
 use Rattle.cred_setid.specs.Parts.{with_parts, changed}
 
 -- the three sets have no other bits
-pub record AreCaps (own : Parts) : Type 0 where
+pub record AreCaps (own : IdParts) : Type 0 where
   pub perm : own.perm < 2 ^ 41
   pub eff : own.eff < 2 ^ 41
   pub amb : own.amb < 2 ^ 41
 
-with-groups : (c : Credential) (own : Parts) (gs : List ℕ) → IsCredential c → are_ids own.uid ≡ true → are_ids own.gid ≡ true → AreCaps own
+with-groups : (c : Credential) (own : IdParts) (gs : List ℕ) → IsCredential c → are_ids own.uid ≡ true → are_ids own.gid ≡ true → AreCaps own
     → AreValidSets own.perm c.inh own.eff own.amb → AllGroups gs → IsCredential (record (with_parts c own) { groups = gs })
 with-groups c own gs is uid gid caps valid groups =
     let v = credential-is c is in
@@ -31,13 +31,13 @@ with-groups c own gs is uid gid caps valid groups =
       root = v.root;
     }
 
-pub changed-is : (c : Credential) (own : Parts) (groups : Option (List ℕ)) → IsCredential c → are_ids own.uid ≡ true → are_ids own.gid ≡ true → AreCaps own
+pub changed-is : (c : Credential) (own : IdParts) (groups : Option (List ℕ)) → IsCredential c → are_ids own.uid ≡ true → are_ids own.gid ≡ true → AreCaps own
     → AreValidSets own.perm c.inh own.eff own.amb → IfSome groups IsGroupList → IsCredential (changed c own groups)
 changed-is c own None is uid gid caps valid groups = with-groups c own c.groups is uid gid caps valid (credential-is c is).groups
 changed-is c own (Some gs) is uid gid caps valid groups = with-groups c own gs is uid gid caps valid (all-groups gs groups)
 
 -- the word of flags with another number of groups
-pub flags-changed : (c : Credential) (own : Parts) (gs : List ℕ) (n flags : ℕ) → IsCredential c → flags ≡ flags_word c → n ≡ length gs
+pub flags-changed : (c : Credential) (own : IdParts) (gs : List ℕ) (n flags : ℕ) → IsCredential c → flags ≡ flags_word c → n ≡ length gs
     → n * 2 ^ 16 + flags % 2 ^ 16 ≡ flags_word (changed c own (Some gs))
 flags-changed c own gs n flags is flags_is n_is =
     let bits = (credential-is c is).bits in
@@ -67,7 +67,7 @@ copied ws is = record {
 }
 
 -- the words before those of groups
-pub head-changed : (c : Credential) (own : Parts) (groups : Option (List ℕ))
+pub head-changed : (c : Credential) (own : IdParts) (groups : Option (List ℕ))
     → take GROUPS (words_of (changed c own groups))
     ≡ pair own.uid.real own.uid.effective ∷ pair own.uid.saved own.uid.fs ∷ pair own.gid.real own.gid.effective ∷ pair own.gid.saved own.gid.fs ∷ own.perm
     ∷ c.inh ∷ own.eff ∷ c.bound ∷ own.amb ∷ flags_word (changed c own groups) ∷ c.ns ∷ c.root ∷ []
@@ -76,7 +76,7 @@ head-changed c own None = refl
 head-changed c own (Some gs) = refl
 
 -- the words of groups that are copied
-pub group-copied : (ws : List ℕ) (own : Parts) (i : ℕ) → are_words ws ≡ true → i < WORDS - GROUPS
+pub group-copied : (ws : List ℕ) (own : IdParts) (i : ℕ) → are_words ws ≡ true → i < WORDS - GROUPS
     → slice_index ws (GROUPS + i) ≡ slice_index (words_of (changed (credential_in ws) own None)) (GROUPS + i)
 group-copied ws own i is within =
     ap (λ (xs : List ℕ). slice_index xs (GROUPS + i)) (words-are ws is).1 ∙

@@ -5,7 +5,7 @@ ghost use Rattle.cred_ids.specs.Groups.{IsGroupList};
 ghost use Rattle.cred_record.specs.Credential.{Credential, AreValidSets};
 ghost use Rattle.cred_record.specs.Words.{are_ids, are_words, credential_in, flags_word};
 ghost use Rattle.cred_record.specs.Words.{words_of, IsCredential};
-ghost use Rattle.cred_setid.specs.declared.parts.Parts.{Parts};
+ghost use Rattle.cred_setid.specs.declared.parts.IdParts.{IdParts};
 ghost use Rattle.cred_setid.specs.Parts.{parts_of, changed};
 ghost use Rattle.cred_words.specs.Seen.{IsSealedSlot};
 ghost use Rattle.cred_words.specs.Words.{put_words, words_at};
@@ -21,12 +21,12 @@ use cred_record::WORDS;
 use cred_record::layout::{
     AMBIENT, BOUNDING, EFFECTIVE, FLAGS, GROUPS, INHERITABLE, NAMESPACE, PERMITTED, ROOT, USER,
 };
-use cred_setid::Parts;
+use cred_setid::IdParts;
 use cred_words::cells::{Cells, Hold, Master, Writer, load_own_word, load_word, settle_word};
 
 /// What an id call looks at of the slot that is held, whose words are a credential's.
 #[inline(always)]
-fn parts_in(cells: &Cells, hold: &mut Hold, slot: u32) -> Parts
+fn parts_in(cells: &Cells, hold: &mut Hold, slot: u32) -> IdParts
     requires own { hold.old.id ≡ cells.now }
     requires slot { slot ≡ hold.old.token.slot }
     requires known { are_words hold.old.token.words ≡ true }
@@ -39,7 +39,7 @@ fn parts_in(cells: &Cells, hold: &mut Hold, slot: u32) -> Parts
     let amb = CapSet::known(load_word(cells, hold, slot, AMBIENT));
     let bits = secure_bits(load_word(cells, hold, slot, FLAGS));
     let root = Id::known(load_word(cells, hold, slot, ROOT) as u32);
-    Parts {
+    IdParts {
         uid,
         gid,
         perm,
@@ -53,7 +53,7 @@ fn parts_in(cells: &Cells, hold: &mut Hold, slot: u32) -> Parts
 /// What an id call looks at of a sealed slot, by a hold that is lent and comes back. What else is
 /// lent stays.
 #[inline(always)]
-pub(crate) fn read_sealed_parts(master: &mut Master, cells: &Cells, slot: u32) -> Parts
+pub(crate) fn read_sealed_parts(master: &mut Master, cells: &Cells, slot: u32) -> IdParts
     requires own { master.old.id ≡ cells.now }
     requires empty { master.old.ledger.kept ≡ None }
     requires sealed { IsSealedSlot master.old.ledger slot }
@@ -92,7 +92,7 @@ fn are_given(groups: &Option<Groups>)
 
 /// A credential that is given these parts and groups is one still, where the sets fit. There is
 /// nothing to run.
-fn are_parts(parts: &Parts, groups: &Option<Groups>)
+fn are_parts(parts: &IdParts, groups: &Option<Groups>)
     ensures { (c : Credential) → IsCredential c →
         AreValidSets parts.now.perm c.inh parts.now.eff parts.now.amb →
         IsCredential (changed c parts.now groups.now) }
@@ -107,7 +107,7 @@ fn are_parts(parts: &Parts, groups: &Option<Groups>)
 #[inline(always)]
 fn flags_like(flags: u64, groups: &Option<Groups>) -> u64
     requires { (c : Credential) × IsCredential c × (flags ≡ flags_word c) }
-    ensures { (c : Credential) → (own : Parts) → IsCredential c → flags ≡ flags_word c →
+    ensures { (c : Credential) → (own : IdParts) → IsCredential c → flags ≡ flags_word c →
         result ≡ flags_word (changed c own groups.now) }
 {
     match groups {
@@ -122,7 +122,7 @@ fn head_like(
     cells: &Cells,
     hold: &mut Hold,
     from: u32,
-    parts: &Parts,
+    parts: &IdParts,
     groups: &Option<Groups>,
 ) -> [u64; GROUPS]
     requires own { hold.old.id ≡ cells.now }
@@ -162,7 +162,7 @@ fn word_like(cells: &Cells, hold: &mut Hold, from: u32, groups: &Option<Groups>,
     requires slot { from ≡ hold.old.token.slot }
     requires known { are_words hold.old.token.words ≡ true }
     requires within { i < WORDS - GROUPS }
-    ensures word { (own : Parts) → result ≡ slice_index
+    ensures word { (own : IdParts) → result ≡ slice_index
         (words_of (changed (credential_in hold.old.token.words) own groups.now)) (GROUPS + i) }
     ensures same { hold.new ≡ hold.old }
 {
@@ -181,7 +181,7 @@ fn scatter_like(
     from: u32,
     writer: &mut Writer,
     slot: u32,
-    parts: &Parts,
+    parts: &IdParts,
     groups: &Option<Groups>,
 )
     requires own { (hold.old.id ≡ cells.now) × (writer.old.id ≡ cells.now) }
@@ -222,7 +222,7 @@ fn scatter_from(
     from: u32,
     writer: &mut Writer,
     slot: u32,
-    parts: &Parts,
+    parts: &IdParts,
     groups: &Option<Groups>,
 )
     requires own { (master.old.id ≡ cells.now) × (writer.old.id ≡ cells.now) }
@@ -253,7 +253,7 @@ pub(crate) fn put_like(
     cells: &Cells,
     from: u32,
     writer: &mut tokens::Writer,
-    parts: &Parts,
+    parts: &IdParts,
     groups: &Option<Groups>,
 )
     requires own { (master.old.id ≡ cells.now) × (writer.old.id ≡ cells.now) }

@@ -14,7 +14,7 @@ use crate::words::{load_sealed, read_sealed};
 use cred_ids::{Groups, NoMemory};
 use cred_record::Cred;
 use cred_record::layout::NAMESPACE;
-use cred_setid::Parts;
+use cred_setid::IdParts;
 use cred_words::{Cells, cells};
 use std::alloc::Global;
 use std::marker::Model;
@@ -150,7 +150,7 @@ impl Master {
     /// What an id call looks at of the credential of a sealed slot. It takes no memory. What is
     /// lent stays.
     #[inline(always)]
-    pub fn read_parts(&mut self, cells: &Cells, slot: u32) -> Parts
+    pub fn read_parts(&mut self, cells: &Cells, slot: u32) -> IdParts
         requires own { self.old.id ≡ cells.now }
         requires sealed { IsSealed self.old.slots slot }
         ensures parts { (c : Credential) → slice_get self.old.slots slot ≡ Some (Some c) →
@@ -197,7 +197,7 @@ impl Master {
         cells: &Cells,
         from: u32,
         slot: u32,
-        parts: &Parts,
+        parts: &IdParts,
         groups: &Option<Groups>,
     )
         requires own { self.old.id ≡ cells.now }
@@ -225,7 +225,7 @@ impl Master {
         cells: &Cells,
         from: u32,
         writer: &mut Writer,
-        parts: &Parts,
+        parts: &IdParts,
         groups: &Option<Groups>,
     )
         requires own { (self.old.id ≡ cells.now) × (writer.old.id ≡ cells.now) }

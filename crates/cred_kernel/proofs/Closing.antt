@@ -4,8 +4,8 @@ use Rattle.cred_record.specs.File.{File}
 use Rattle.cred_model.specs.Script.{Script}
 use Rattle.cred_model.specs.Journal.{IsLegal}
 use Rattle.cred_script.specs.Lanes.{lanes}
-use Rattle.cred_turn.specs.declared.numbers.Numbers.{Numbers}
-use Rattle.cred_turn.specs.declared.view.Row.{Row}
+use Rattle.cred_turn.specs.declared.numbers.LaneNumbers.{LaneNumbers}
+use Rattle.cred_turn.specs.declared.view.LaneRow.{LaneRow}
 use Rattle.cred_turn.specs.Rows.{HasRow}
 use Rattle.cred_turn.specs.Seen.{Rolled}
 use Rattle.atomic_table.specs.Seated.{TableId}
@@ -22,7 +22,7 @@ their_numbers : (script : Script) (id cells : TableId) (infos : List File) (book
 their_numbers script id cells infos book roll turns kept theirs all k lt =
     let same : lanes book.script.lines ≡ lanes script.lines = ap (λ (s : Script). lanes s.lines) kept.script_is in
     let here : HasRow roll.rows (k + 1) = (omega arith, omega (arith, kept.lent.count, same, all.count, lt)) in
-    ap (λ (r : Row). r.numbers) (sym (kept.lent.each (k + 1) here) ∙ theirs k lt)
+    ap (λ (r : LaneRow). r.numbers) (sym (kept.lent.each (k + 1) here) ∙ theirs k lt)
 
 lane_over : (script : Script) (id cells : TableId) (infos : List File) (book : Recorded) (roll : Rolled) (turns : List Seen)
     → IsLocked script id cells infos book roll → AreTheirs roll.rows turns
@@ -31,7 +31,7 @@ lane_over : (script : Script) (id cells : TableId) (infos : List File) (book : R
 lane_over script id cells infos book roll turns kept theirs all ended lane k is lt =
     let at : (turn_at turns k).lane ≡ lane = all.in_order k lt ∙ sym is in
     ap (ended_of book.script book.journal) is
-    ∙ ap (λ (n : Numbers). n.ended) (their_numbers script id cells infos book roll turns kept theirs all k lt)
+    ∙ ap (λ (n : LaneNumbers). n.ended) (their_numbers script id cells infos book roll turns kept theirs all k lt)
     ∙ (ended k lt).0
     ∙ ap (lines_in script) at
     ∙ ap (λ (s : Script). lines_in s lane) (sym kept.script_is)
@@ -50,4 +50,4 @@ pub close_counts : (script : Script) (id cells : TableId) (infos : List File) (b
     → AreAllTurns script turns → AreCounted script book.journal turns
 close_counts script id cells infos book roll turns kept theirs all k lt =
     ap (λ (s : Script). entered_of s book.journal (k + 1)) (sym kept.script_is)
-    ∙ ap (λ (n : Numbers). n.entered) (their_numbers script id cells infos book roll turns kept theirs all k lt)
+    ∙ ap (λ (n : LaneNumbers). n.entered) (their_numbers script id cells infos book roll turns kept theirs all k lt)

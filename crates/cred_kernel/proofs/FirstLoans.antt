@@ -4,7 +4,7 @@ use Rattle.std.proofs.lemmas.List.{get_or_at, get_or-set_same, get_or-set_other}
 use Rattle.std.proofs.Math.ListN.{get_or-append}
 use mathlib.Core.Logic.{dite}
 use native.Mathlib.Decide.{ℕ_discrete}
-use Rattle.cred_turn.specs.declared.view.Row.{Row}
+use Rattle.cred_turn.specs.declared.view.LaneRow.{LaneRow}
 use Rattle.cred_turn.specs.Rows.{fresh, home_row, with_row}
 use Rattle.cred_kernel.specs.Turns.{Seen, turn_at}
 
@@ -16,7 +16,7 @@ one_more P n before here k lt =
     (λ (apart : k ≢ n). before k (omega (arith, lt, apart)))
 
 -- one row more was lent
-pub lent_more : (row : ℕ → Row) (rows : List Row) (n : ℕ) (here : Row) → here ≡ row n → n < length rows
+pub lent_more : (row : ℕ → LaneRow) (rows : List LaneRow) (n : ℕ) (here : LaneRow) → here ≡ row n → n < length rows
     → ((k : ℕ) → k < n → slice_index_or rows k (home_row fresh) ≡ row k)
     → (k : ℕ) → k < n + 1 → slice_index_or (with_row rows (n + 1) here) k (home_row fresh) ≡ row k
 lent_more row rows n here is within lent =
@@ -27,7 +27,7 @@ lent_more row rows n here is within lent =
     (get_or-set_same rows n here (home_row fresh) within ∙ is))
 
 -- and those behind it are as they were
-pub home_after : (rows : List Row) (n k : ℕ) (here : Row) → n + 1 ≤ k
+pub home_after : (rows : List LaneRow) (n k : ℕ) (here : LaneRow) → n + 1 ≤ k
     → slice_index_or (with_row rows (n + 1) here) k (home_row fresh) ≡ slice_index_or rows k (home_row fresh)
 home_after rows n k here past = get_or-set_other rows (n + 1 - 1) k here (home_row fresh) (λ same. omega (arith, same, past))
 

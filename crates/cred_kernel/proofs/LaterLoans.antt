@@ -7,8 +7,8 @@ use Rattle.atomic_table.specs.Seated.{TableId}
 use Rattle.cred_record.specs.File.{File}
 use Rattle.cred_model.specs.Script.{Script}
 use Rattle.cred_script.specs.Lanes.{lanes}
-use Rattle.cred_turn.specs.declared.numbers.Numbers.{Numbers}
-use Rattle.cred_turn.specs.declared.view.Row.{Row}
+use Rattle.cred_turn.specs.declared.numbers.LaneNumbers.{LaneNumbers}
+use Rattle.cred_turn.specs.declared.view.LaneRow.{LaneRow}
 use Rattle.cred_turn.specs.Rows.{fresh, home_row, lent_row, with_row, HasRow, row_of}
 use Rattle.cred_turn.specs.Seen.{Passed, Rolled, pass}
 use Rattle.cred_book.specs.Book.{Recorded, infos_in}
@@ -17,24 +17,24 @@ use Rattle.cred_kernel.specs.Locks.{AreLent, IsLocked, numbers_in}
 use Rattle.cred_kernel.proofs.Stepping.{IsMoved}
 
 -- the rows, of which one came back and was lent again
-abbrev pub lent_again : List Row → ℕ → Row → Numbers → List Row
+abbrev pub lent_again : List LaneRow → ℕ → LaneRow → LaneNumbers → List LaneRow
 lent_again rows lane back now = with_row (with_row rows lane back) lane (lent_row now)
 
-row_there : (rows : List Row) (lane : ℕ) (back : Row) (now : Numbers) → HasRow rows lane
+row_there : (rows : List LaneRow) (lane : ℕ) (back : LaneRow) (now : LaneNumbers) → HasRow rows lane
     → row_of (lent_again rows lane back now) lane ≡ lent_row now
 row_there rows lane back now here =
     get_or-set_same (with_row rows lane back) (lane - 1) (lent_row now) (home_row fresh)
     (omega (arith, here.0, here.1, length-set rows (lane - 1) back))
 
-row_elsewhere : (rows : List Row) (lane other : ℕ) (back : Row) (now : Numbers) → 0 < lane → 0 < other → other ≢ lane
+row_elsewhere : (rows : List LaneRow) (lane other : ℕ) (back : LaneRow) (now : LaneNumbers) → 0 < lane → 0 < other → other ≢ lane
     → row_of (lent_again rows lane back now) other ≡ row_of rows other
 row_elsewhere rows lane other back now some also apart =
     let differ : other - 1 ≢ lane - 1 = λ same. apart (omega (arith, some, also, same)) in
     get_or-set_other (with_row rows lane back) (lane - 1) (other - 1) (lent_row now) (home_row fresh) differ
     ∙ get_or-set_other rows (lane - 1) (other - 1) back (home_row fresh) differ
 
-lent_after : (before after : Recorded) (rows : List Row) (lane : ℕ) (back : Row) (now : Numbers) → AreLent before rows → IsMoved before after lane now
-    → after.script ≡ before.script → HasRow rows lane → AreLent after (lent_again rows lane back now)
+lent_after : (before after : Recorded) (rows : List LaneRow) (lane : ℕ) (back : LaneRow) (now : LaneNumbers) → AreLent before rows
+    → IsMoved before after lane now → after.script ≡ before.script → HasRow rows lane → AreLent after (lent_again rows lane back now)
 lent_after before after rows lane back now lent moved script here =
     let len : length (lent_again rows lane back now) ≡ length rows
     = length-set (with_row rows lane back) (lane - 1) (lent_row now) ∙ length-set rows (lane - 1) back in
@@ -52,12 +52,12 @@ lent_after before after rows lane back now lent moved script here =
     }
 
 -- the roll, where this is now the row of a lane
-abbrev pub relent : Rolled → ℕ → Row → Rolled
+abbrev pub relent : Rolled → ℕ → LaneRow → Rolled
 relent roll lane row = record { id = roll.id; rows = with_row roll.rows lane row }
 
 -- A pass came back, a step was made, and the row was lent again: all is as it must be where the lock is free.
 pub locked_after : (script : Script) (id cells : TableId) (infos : List File) (before after : Recorded) (roll taken lent : Rolled) (back : Passed)
-    (lane : ℕ) (was now : Numbers)
+    (lane : ℕ) (was now : LaneNumbers)
     → IsLocked script id cells infos before roll → IsMoved before after lane now → after.script ≡ before.script → after.words.id ≡ before.words.id
     → infos_in after ≡ infos_in before → BookStands after → back ≡ pass id lane was → HasRow roll.rows back.lane
     → taken ≡ relent roll back.lane (home_row back.numbers)

@@ -4,8 +4,8 @@ use Rattle.atomic_table.specs.Seated.{TableId}
 use Rattle.cred_event.specs.declared.entry.Entry.{Entry}
 use Rattle.cred_model.specs.Script.{Script}
 use Rattle.cred_tables.specs.Out.{needs_tokens}
-use Rattle.cred_turn.specs.declared.numbers.Numbers.{Numbers}
-use Rattle.cred_turn.specs.declared.view.Row.{Row}
+use Rattle.cred_turn.specs.declared.numbers.LaneNumbers.{LaneNumbers}
+use Rattle.cred_turn.specs.declared.view.LaneRow.{LaneRow}
 use Rattle.cred_turn.specs.Rows.{lent_row, HasRow, row_of}
 use Rattle.cred_turn.specs.Seen.{Passed, pass}
 use Rattle.cred_book.specs.Book.{Recorded}
@@ -14,12 +14,12 @@ use Rattle.cred_book.proofs.Ends.{entered_within}
 use Rattle.cred_kernel.specs.Locks.{AreLent, numbers_in}
 
 -- a pass that comes back has its lane's numbers in the book
-pub its_numbers : (book : Recorded) (rows : List Row) (roll : TableId) (lane : ℕ) (numbers : Numbers) (back : Passed) → AreLent book rows
+pub its_numbers : (book : Recorded) (rows : List LaneRow) (roll : TableId) (lane : ℕ) (numbers : LaneNumbers) (back : Passed) → AreLent book rows
     → back ≡ pass roll lane numbers → HasRow rows back.lane → row_of rows back.lane ≡ lent_row back.numbers
     → numbers ≡ numbers_in book lane
 its_numbers book rows roll lane numbers back lent is here was =
     subst (λ (p : Passed). p.numbers ≡ numbers_in book p.lane) is
-    (ap (λ (r : Row). r.numbers) (sym was ∙ lent.each back.lane here))
+    (ap (λ (r : LaneRow). r.numbers) (sym was ∙ lent.each back.lane here))
 
 -- a pass that is known in two ways
 pub is_back : (held : Option Passed) (back other : Passed) → held ≡ Some back → held ≡ Some other → back ≡ other
@@ -41,10 +41,10 @@ decided_within : (script : Script) (journal : List Entry) (lane : ℕ) → decid
 decided_within script journal lane = let within = tallied_within script lane journal (first_tally script) in omega (arith, within)
 
 -- The lane has no more entries than the journal.
-pub entered_few : (book : Recorded) (lane : ℕ) (numbers : Numbers) → numbers ≡ numbers_in book lane → numbers.entered ≤ length book.journal
+pub entered_few : (book : Recorded) (lane : ℕ) (numbers : LaneNumbers) → numbers ≡ numbers_in book lane → numbers.entered ≤ length book.journal
 entered_few book lane numbers is =
-    let few = entered_within book.script book.journal lane in omega (arith, few, ap (λ (n : Numbers). n.entered) is)
+    let few = entered_within book.script book.journal lane in omega (arith, few, ap (λ (n : LaneNumbers). n.entered) is)
 
-pub decided_few : (book : Recorded) (lane : ℕ) (numbers : Numbers) → numbers ≡ numbers_in book lane → numbers.decided ≤ length book.journal
+pub decided_few : (book : Recorded) (lane : ℕ) (numbers : LaneNumbers) → numbers ≡ numbers_in book lane → numbers.decided ≤ length book.journal
 decided_few book lane numbers is =
-    let few = decided_within book.script book.journal lane in omega (arith, few, ap (λ (n : Numbers). n.decided) is)
+    let few = decided_within book.script book.journal lane in omega (arith, few, ap (λ (n : LaneNumbers). n.decided) is)

@@ -5,12 +5,12 @@ use Rattle.std.proofs.Math.ListN.{get_or-append}
 use mathlib.Core.Logic.{dite}
 use native.Mathlib.Decide.{ℕ_discrete}
 use Rattle.cred_model.specs.Script.{Script}
-use Rattle.cred_turn.specs.declared.view.Row.{Row}
+use Rattle.cred_turn.specs.declared.view.LaneRow.{LaneRow}
 use Rattle.cred_turn.specs.Rows.{fresh, home_row, lent_row, row_of, with_row}
 use Rattle.cred_kernel.specs.Turns.{AreAllTurns, Seen, turn_at}
 
 -- The passes of the turns so far came back, and the rows of the others are as at the start.
-pub record Took (start rows : List Row) (before : List Seen) : Type 0 where
+pub record Took (start rows : List LaneRow) (before : List Seen) : Type 0 where
   pub taken : (k : ℕ) → k < length before → row_of start (k + 1) ≡ lent_row (turn_at before k).numbers
   pub out : (k : ℕ) → length before ≤ k → row_of rows (k + 1) ≡ row_of start (k + 1)
 
@@ -24,7 +24,7 @@ lane_is script all before after turn are split =
     (get_or_at before turn after (record { lane = 0; numbers = fresh }) (length before) refl) in
     sym (ap (λ (t : Seen). t.lane) at) ∙ are.in_order (length before) here
 
-pub took_one : (start rows : List Row) (before : List Seen) (turn : Seen) (back : Row) → Took start rows before → turn.lane ≡ length before + 1
+pub took_one : (start rows : List LaneRow) (before : List Seen) (turn : Seen) (back : LaneRow) → Took start rows before → turn.lane ≡ length before + 1
     → row_of rows turn.lane ≡ lent_row turn.numbers → Took start (with_row rows turn.lane back) (before ++ turn ∷ [])
 took_one start rows before turn back took is was =
     let n : ℕ = length before in

@@ -3,7 +3,7 @@ use Rattle.std.specs.Prelude.{◌≡◌, ℕ, ◌+◌, ◌<◌, List, Some, None
 use Rattle.atomic_table.specs.Seated.{TableId}
 use Rattle.cred_record.specs.File.{File}
 use Rattle.cred_model.specs.Script.{Script}
-use Rattle.cred_turn.specs.declared.numbers.Numbers.{Numbers}
+use Rattle.cred_turn.specs.declared.numbers.LaneNumbers.{LaneNumbers}
 use Rattle.cred_work.specs.Work.{Work}
 use Rattle.cred_work.specs.DecidedWorks.{IsUndecided}
 use Rattle.cred_book.specs.Counts.{IsSameOrNext, lines_in}
@@ -44,7 +44,7 @@ Advanced script infos cells old new (step.Work work) = HasGiven script infos cel
 Advanced script infos cells old new Ended = (new ≡ old) × LaneHasEnded script new
 
 -- the numbers of a lane after a step, by which so many of its lines have ended
-abbrev pub after_step : {E : Type 0} → Numbers → ℕ → Result Step E → Numbers
+abbrev pub after_step : {E : Type 0} → LaneNumbers → ℕ → Result Step E → LaneNumbers
 after_step numbers ended (Ok More) =
     record numbers { entered = numbers.entered + 1; ended = ended; out = None }
 after_step numbers ended (Ok (step.Work work)) =
@@ -52,7 +52,7 @@ after_step numbers ended (Ok (step.Work work)) =
 after_step numbers ended step = record numbers { ended = ended }
 
 -- the numbers of a lane after its work came back, by which so many of its lines have ended
-abbrev pub after_finish : {E : Type 0} → Numbers → ℕ → Result Step E → Numbers
+abbrev pub after_finish : {E : Type 0} → LaneNumbers → ℕ → Result Step E → LaneNumbers
 after_finish numbers ended (Ok step) = record {
   entered = numbers.entered + 1;
   decided = numbers.decided + 1;

@@ -5,8 +5,8 @@ use Rattle.cred_record.specs.File.{File}
 use Rattle.cred_event.specs.declared.entry.Entry.{Entry}
 use Rattle.cred_model.specs.Script.{Script}
 use Rattle.cred_script.specs.Lanes.{lanes}
-use Rattle.cred_turn.specs.declared.numbers.Numbers.{Numbers}
-use Rattle.cred_turn.specs.declared.view.Row.{Row}
+use Rattle.cred_turn.specs.declared.numbers.LaneNumbers.{LaneNumbers}
+use Rattle.cred_turn.specs.declared.view.LaneRow.{LaneRow}
 use Rattle.cred_turn.specs.Rows.{fresh, home_row, lent_row, HasRow, row_of}
 use Rattle.cred_turn.specs.Seen.{Rolled}
 use Rattle.cred_book.specs.Book.{Recorded, infos_in, out_of}
@@ -23,7 +23,7 @@ pub record KernelParts : Type 0 where
   pub infos : List File
 
 -- the numbers of a lane in a book, and the line of it whose work is out
-abbrev pub numbers_in : Recorded → ℕ → Numbers
+abbrev pub numbers_in : Recorded → ℕ → LaneNumbers
 numbers_in book lane = record {
   entered = entered_of book.script book.journal lane;
   decided = decided_of book.script book.journal lane;
@@ -51,10 +51,10 @@ pub record IsNewKernel (book : Recorded) (roll : Rolled) : Type 0 where
 -- what lies under the lock: the journal and the rows
 pub record Contents : Type 0 where
   pub journal : List Entry
-  pub rows : List Row
+  pub rows : List LaneRow
 
 -- each of the script's lanes has a row, which is lent and has the lane's numbers in the book
-pub record AreLent (book : Recorded) (rows : List Row) : Type 0 where
+pub record AreLent (book : Recorded) (rows : List LaneRow) : Type 0 where
   pub count : length rows ≡ lanes book.script.lines
   pub each : (lane : ℕ) → HasRow rows lane → row_of rows lane ≡ lent_row (numbers_in book lane)
 
@@ -73,6 +73,6 @@ pub record IsLocked
   pub lent : AreLent book roll.rows
 
 -- each turn's row was lent with the turn's numbers
-abbrev pub AreTheirs : List Row → List Seen → Type 0
+abbrev pub AreTheirs : List LaneRow → List Seen → Type 0
 AreTheirs rows turns =
     (k : ℕ) → k < length turns → row_of rows (k + 1) ≡ lent_row (turn_at turns k).numbers

@@ -5,7 +5,7 @@ use Rattle.atomic_table.specs.Seated.{TableId}
 use Rattle.cred_event.specs.declared.entry.Entry.{Entry}
 use Rattle.cred_model.specs.Script.{Script}
 use Rattle.cred_script.specs.Lanes.{lanes}
-use Rattle.cred_turn.specs.declared.numbers.Numbers.{Numbers}
+use Rattle.cred_turn.specs.declared.numbers.LaneNumbers.{LaneNumbers}
 use Rattle.cred_turn.specs.Rows.{fresh}
 use Rattle.cred_turn.specs.Seen.{Passed, pass}
 use Rattle.cred_book.specs.Counts.{entered_of, lines_in}
@@ -29,12 +29,12 @@ no_table = record {
 -- a turn: its lane, and how far the lane has come
 pub record Seen : Type 0 where
   pub lane : ℕ
-  pub numbers : Numbers
+  pub numbers : LaneNumbers
 
 -- the script has the lane, and the turn its pass, which has its numbers
 pub record IsTurn
     (script : Script) (roll : TableId)
-    (its_pass : Option Passed) (lane : ℕ) (numbers : Numbers) : Type 0 where
+    (its_pass : Option Passed) (lane : ℕ) (numbers : LaneNumbers) : Type 0 where
   pub is_lane : (0 < lane) × (lane ≤ lanes script.lines)
   pub pass_is : its_pass ≡ Some (pass roll lane numbers)
 

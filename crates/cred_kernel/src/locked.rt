@@ -11,7 +11,7 @@ use cred_book::{Book, Step, Unfinished};
 use cred_event::Entry;
 use cred_hold::Cells;
 use cred_ids::NoMemory;
-use cred_turn::{Numbers, Roll};
+use cred_turn::{LaneNumbers, Roll};
 use cred_work::Work;
 use std::marker::{Model, PhantomData};
 
@@ -94,41 +94,41 @@ impl<K: Name> Locked<K> {
 }
 
 /// The lane's numbers after a step of it, by which so many of its lines have ended.
-fn after_step(before: Numbers, step: &Result<Step, NoMemory>, ended: u32) -> Numbers
+fn after_step(before: LaneNumbers, step: &Result<Step, NoMemory>, ended: u32) -> LaneNumbers
     requires room { before.entered < 2 ^ 63 }
     ensures { result ≡ after_step before ended step.now }
 {
     match step {
-        Ok(Step::More) => Numbers {
+        Ok(Step::More) => LaneNumbers {
             entered: before.entered + 1,
             ended,
             out: None,
             ..before
         },
-        Ok(Step::Work(work)) => Numbers {
+        Ok(Step::Work(work)) => LaneNumbers {
             ended,
             out: Some(work.line()),
             ..before
         },
-        Ok(Step::Ended) | Err(_) => Numbers { ended, ..before },
+        Ok(Step::Ended) | Err(_) => LaneNumbers { ended, ..before },
     }
 }
 
 /// The lane's numbers after its work came back, by which so many of its lines have ended. What was
 /// entered then is one event more that went out as a work first.
-fn after_finish(before: Numbers, step: &Result<Step, Unfinished>, ended: u32) -> Numbers
+fn after_finish(before: LaneNumbers, step: &Result<Step, Unfinished>, ended: u32) -> LaneNumbers
     requires entered { before.entered < 2 ^ 63 }
     requires decided { before.decided < 2 ^ 63 }
     ensures { result ≡ after_finish before ended step.now }
 {
     match step {
-        Ok(_) => Numbers {
+        Ok(_) => LaneNumbers {
             entered: before.entered + 1,
             decided: before.decided + 1,
             ended,
             out: None,
         },
-        Err(_) => Numbers { ended, ..before },
+        Err(_) => LaneNumbers { ended, ..before },
     }
 }
 

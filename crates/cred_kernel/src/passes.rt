@@ -10,7 +10,7 @@ use crate::name::Name;
 use crate::token::{Turn, TurnList};
 use cred_book::Book;
 use cred_ids::NoMemory;
-use cred_turn::{Numbers, Pass, Roll};
+use cred_turn::{LaneNumbers, Pass, Roll};
 use std::alloc::Global;
 use std::marker::PhantomData;
 
@@ -35,7 +35,7 @@ pub(crate) fn lend_all<K: Name>(
     let mut turns = Vec::new(alloc);
     'lanes: for place in 0..book.script().lanes() {
         let lane = place + 1;
-        let numbers = Numbers {
+        let numbers = LaneNumbers {
             entered: 0,
             decided: 0,
             ended: book.ended(lane),
@@ -48,7 +48,7 @@ pub(crate) fn lend_all<K: Name>(
 }
 
 /// A turn of which nothing was entered.
-fn new_turn<K: Name>(lane: u32, numbers: Numbers, lent: Pass) -> Turn<K>
+fn new_turn<K: Name>(lane: u32, numbers: LaneNumbers, lent: Pass) -> Turn<K>
     requires lane { (0 < lane) × (lane ≤ lanes K.script.lines) }
     requires pass { lent ≡ pass K.roll lane numbers }
     ensures { result ≡ record { lane = lane; numbers = numbers } }

@@ -2,7 +2,7 @@
 ghost use Rattle.std.specs.Prelude.{◌≡◌};
 
 use crate::name::Name;
-use cred_turn::{Numbers, Pass};
+use cred_turn::{LaneNumbers, Pass};
 use std::marker::{Model, PhantomData};
 
 /// A lane's turn: how far the lane has come, and the pass that ties these numbers to the roll's
@@ -11,7 +11,7 @@ use std::marker::{Model, PhantomData};
 pub struct Turn<K: Name> {
     pub(crate) pass: Option<Pass>,
     pub(crate) lane: u32,
-    pub(crate) numbers: Numbers,
+    pub(crate) numbers: LaneNumbers,
     pub(crate) of: PhantomData<K>,
 }
 

@@ -38,7 +38,9 @@ shown_is : (x y : Broadcast) → shown x ≡ Some y → y ≡ x
 shown_is x y is =
     elim (is_open x) as (λ b. cond b (Some x) None ≡ Some y → y ≡ x) [ true ↦ λ same. (cc) | false ↦ λ none. (cc) ] is
 
-module _ (script : Script) (journal : List Entry) (answered : IsAnswered script journal) (from upto number process : ℕ) (call : IdCall) (ids : List ℕ) (able : Bool) (run : RunsThrough script journal from upto number process call) (steps : StepAlike script journal from upto number (call_kind call) ids able) where
+module _ (script : Script) (journal : List Entry) (answered : IsAnswered script journal) (from upto number process : ℕ) (call : IdCall)
+    (ids : List ℕ) (able : Bool) (run : RunsThrough script journal from upto number process call)
+    (steps : StepAlike script journal from upto number (call_kind call) ids able) where
   abbrev At : ℕ → State
   At i = state_at script journal i
 

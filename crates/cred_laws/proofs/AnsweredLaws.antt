@@ -20,7 +20,8 @@ due_answered script before (Some due) = refl
 next_answered : (script : Script) (before : List Entry) (lane : ℕ)
     → IfSome (next script before lane) (HasAnswer script before)
 next_answered script before lane =
-    elim (not (lane == 0) && is_some (due_in script before 0)) as (λ b. IfSome (cond b None (option_map (entry_of script before) (due_in script before lane))) (HasAnswer script before)) [
+    elim (not (lane == 0) && is_some (due_in script before 0)) as
+    (λ b. IfSome (cond b None (option_map (entry_of script before) (due_in script before lane))) (HasAnswer script before)) [
       | true ↦ tt
       | false ↦ due_answered script before (due_in script before lane)
     ]

@@ -132,7 +132,10 @@ begin_case script s line task call cred at left =
     in_slots (λ made. Q (Ok made)) s table_full
     (λ s slot. (
       Began (length s.creds) slot (length others),
-      record (replaced s task old.number new slot) { broadcasts = with_broadcast s.broadcasts (by task); dumpable = renewed s.dumpable owner.process (differs old.cred new) },
+      record (replaced s task old.number new slot) {
+        broadcasts = with_broadcast s.broadcasts (by task);
+        dumpable = renewed s.dumpable owner.process (differs old.cred new);
+      },
     ))
     (λ gone fewer answered. cc)
     (λ gone slot fewer free answered.
@@ -188,8 +191,7 @@ follow_closes s process broadcast task owner old (Ok new) sound is first who cre
       Acted task (length now.creds) slot (length broadcast.waiting - 1),
       record (replaced now task old.number new slot) {
         broadcasts = waits_no_more task now.broadcasts;
-        dumpable = renewed now.dumpable owner.process
-            (differs old.cred new);
+        dumpable = renewed now.dumpable owner.process (differs old.cred new);
       },
     ))
     (λ gone fewer answered. cc)
@@ -213,7 +215,8 @@ act_case script s line number process broadcast who cred slot left sound opened 
     (λ task first. some_case Q (task_of s task) _ _ (λ answered. cc)
     (λ owner lives. some_case Q (numbered s.creds owner.current) _ _ (λ answered. cc)
     (λ old now.
-    follow_closes s process in_broadcast task owner old (by_rule (set_id old.cred in_broadcast.call)) sound (is ∙ ap Some same) first who cred slot left none))))
+    follow_closes s process in_broadcast task owner old (by_rule (set_id old.cred in_broadcast.call)) sound
+    (is ∙ ap Some same) first who cred slot left none))))
 
 pub acted_closes : (script : Script) (s : State) (line number process : ℕ) (broadcast : Broadcast) (who cred slot left : ℕ) → IsSound s
     → broadcast_of s number ≡ Some broadcast → broadcast_in s process ≡ Some broadcast → left ≡ 0

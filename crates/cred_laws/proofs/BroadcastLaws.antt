@@ -51,7 +51,8 @@ committed_none : (process : ℕ) (change : Change) (owner : Task) (broadcasts : 
 committed_none process (Exec file) owner broadcasts none = dropped_still process owner.process broadcasts none
 committed_none process change owner broadcasts none = none
 
-none_by : {script : Script} → (s : State) (event : Event) (made : Answer × State) (process : ℕ) → broadcast_in s process ≡ None → TasksChange script s event made
+none_by : {script : Script} → (s : State) (event : Event) (made : Answer × State) (process : ℕ) → broadcast_in s process ≡ None
+    → TasksChange script s event made
     → (found_in process made.1.broadcasts ≡ None) ⊎ BeginsIn s made.1 process
 none_by s event made process none (SameTasks same broadcasts flags) = inl (no_change process s.broadcasts made.1.broadcasts broadcasts none)
 none_by s event made process none (SetsFlag task value owner flag is found known same broadcasts flags) =
@@ -62,7 +63,8 @@ none_by s event made process none (Shares task child of parent tasks creds curre
     inl (ap (found_in process) broadcasts ∙ joined_none task child process s.broadcasts none)
 none_by s event made process none (Shares task child of parent tasks creds current new (ByFork by is known unused broadcasts flags)) =
     inl (no_change process s.broadcasts made.1.broadcasts broadcasts none)
-none_by s event made process none (Renews task slot owner c ends tasks creds lives (ByBegin call before number at is has ruled unused idle none_end broadcasts answered flags)) =
+none_by s event made process none
+    (Renews task slot owner c ends tasks creds lives (ByBegin call before number at is has ruled unused idle none_end broadcasts answered flags)) =
     let n = length s.creds in
     elim (owner.process == process) as (λ b. (owner.process == process) ≡ b → (found_in process made.1.broadcasts ≡ None) ⊎ BeginsIn s made.1 process) [
       | true ↦ λ test. inr (
@@ -89,11 +91,15 @@ none_by s event made process none (Renews task slot owner c ends tasks creds liv
           inl (ap (found_in process) broadcasts
           ∙ begun_none process s.broadcasts (begun number owner call s.tasks) (eqb-false owner.process process test) none)
     ] refl
-none_by s event made process none (Renews task slot owner c ends tasks creds lives (ByAct number at broadcast before is opened first has ruled none_end broadcasts answered flags)) =
+none_by s event made process none
+    (Renews task slot owner c ends tasks creds lives (ByAct number at broadcast before is opened first has ruled none_end broadcasts answered flags)) =
     inl (ap (found_in process) broadcasts ∙ left_none task process s.broadcasts none)
-none_by s event made process none (Renews task slot owner c ends tasks creds lives (ByRaw call before at is has ruled idle none_end broadcasts answered flags)) =
+none_by s event made process none
+    (Renews task slot owner c ends tasks creds lives (ByRaw call before at is has ruled idle none_end broadcasts answered flags)) =
     inl (no_change process s.broadcasts made.1.broadcasts broadcasts none)
-none_by s event made process none (Renews task slot owner c ends tasks creds lives (ByCommit label place at count p last is first there own changed same cred ending broadcasts answered flags)) =
+none_by s event made process none
+    (Renews task slot owner c ends tasks creds lives
+    (ByCommit label place at count p last is first there own changed same cred ending broadcasts answered flags)) =
     inl (ap (found_in process) broadcasts ∙ committed_none process last.change owner s.broadcasts none)
 none_by s event made process none (Overrides task numbers tasks refer broadcasts flags) = inl (no_change process s.broadcasts made.1.broadcasts broadcasts none)
 none_by s event made process none (Fewer ends tasks creds (ByExit task gone is known ending idle broadcasts flags)) =
@@ -174,7 +180,8 @@ pub mapped : {X Y : Type 0} (f : X → Y) (o : Option X) (y : Y) → option_map 
 mapped f None y is = cc
 mapped f (Some x) y is = (x, refl, cc)
 
-module _ (P : Credential → Type 0) (kept : Kept P) (script : Script) (s : State) (line process : ℕ) (call : IdCall) (sound : IsSound s) (are : AreMade script s) where
+module _ (P : Credential → Type 0) (kept : Kept P) (script : Script) (s : State) (line process : ℕ) (call : IdCall) (sound : IsSound s)
+    (are : AreMade script s) where
   -- the broadcast before the event, and its own steps
   abbrev HadBefore : Event → Type 0
   HadBefore event =

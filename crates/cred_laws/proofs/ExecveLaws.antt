@@ -178,7 +178,8 @@ module _ (script : Script) (From : ℕ → Change → Option File → Type 0) (s
       let flags = flags_committed s owner last in
       let now = broadcasts_after last.change owner (committed (ended ends s) place p owner.current last.cred) in
       let fresh_one : Answer × State = (commit_answer last (length s.creds) p.slot (count_by ends s.tasks), record now { dumpable = flags }) in
-      elim (owner.current == p.base) as (λ b. (b ≡ true → owner.current ≡ p.base) → Q (Ok (cond {A = Answer × State} b fresh_one (Stale p.base owner.current, given_up s place p)))) [
+      elim (owner.current == p.base) as
+      (λ b. (b ≡ true → owner.current ≡ p.base) → Q (Ok (cond {A = Answer × State} b fresh_one (Stale p.base owner.current, given_up s place p)))) [
         | true ↦ λ same answered. by_kind flags place p owner last at is changed lives (same refl) last.change refl answered
         | false ↦ λ same answered. cc
       ] (eqb-true owner.current p.base)

@@ -79,7 +79,8 @@ without_both mode = ap (λ n. not (n == 0)) (and_assoc 2048 (without_bits mode S
 
 stripped_clear : (mode : ℕ) → has_any (stripped mode) SET_USER ≡ false
 stripped_clear mode =
-    elim (has_any mode GROUP_EXECUTE) as (λ b. has_any (cond b (without_bits (without_bits mode SET_USER) SET_GROUP) (without_bits mode SET_USER)) SET_USER ≡ false) [
+    elim (has_any mode GROUP_EXECUTE) as
+    (λ b. has_any (cond b (without_bits (without_bits mode SET_USER) SET_GROUP) (without_bits mode SET_USER)) SET_USER ≡ false) [
       | true ↦ without_both mode
       | false ↦ without_clear mode
     ]

@@ -177,7 +177,8 @@ dropped_beside process other broadcasts broadcast differ is =
 pub dropped_none : (process : ℕ) (broadcasts : List Broadcast) → found_in process (dropped process broadcasts) ≡ None
 dropped_none process [] = refl
 dropped_none process (c ∷ broadcasts) =
-    elim (c.process == process) as (λ b. (c.process == process) ≡ b → found_in process (cond (not b) (c ∷ dropped process broadcasts) (dropped process broadcasts)) ≡ None) [
+    elim (c.process == process) as
+    (λ b. (c.process == process) ≡ b → found_in process (cond (not b) (c ∷ dropped process broadcasts) (dropped process broadcasts)) ≡ None) [
       | true ↦ λ is. dropped_none process broadcasts
       | false ↦ λ other. ap (λ b. cond b (Some c) (found_in process (dropped process broadcasts))) other ∙ dropped_none process broadcasts
     ] refl

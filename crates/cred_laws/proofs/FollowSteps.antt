@@ -105,13 +105,16 @@ child_shown task child broadcast some =
     (λ other. shown_open broadcast some)
 
 -- two are open in different processes
-pub idle_differs : (s : State) (process idle : ℕ) (broadcast : Broadcast) → broadcast_in s process ≡ Some broadcast → broadcast_in s idle ≡ None → process ≢ idle
+pub idle_differs : (s : State) (process idle : ℕ) (broadcast : Broadcast) → broadcast_in s process ≡ Some broadcast → broadcast_in s idle ≡ None
+    → process ≢ idle
 idle_differs s process idle broadcast is none same =
     let both : Some broadcast ≡ None = sym is ∙ ap (broadcast_in s) same ∙ none in cc
 
 -- ---- one case after another
 
-module _ (P : Credential → Type 0) (kept : Kept P) (script : Script) (s : State) (event : Event) (made : Answer × State) (process : ℕ) (broadcast : Broadcast) (sound : IsSound s) (are_made : AreMade script s) (is : broadcast_in s process ≡ Some broadcast) (before : Followed P s.creds s.tasks process broadcast.waiting) (own : OwnStep P s event made.0 broadcast) where
+module _ (P : Credential → Type 0) (kept : Kept P) (script : Script) (s : State) (event : Event) (made : Answer × State) (process : ℕ)
+    (broadcast : Broadcast) (sound : IsSound s) (are_made : AreMade script s) (is : broadcast_in s process ≡ Some broadcast)
+    (before : Followed P s.creds s.tasks process broadcast.waiting) (own : OwnStep P s event made.0 broadcast) where
   at : IsIn s process broadcast
   at = is_in s process broadcast sound is
 
@@ -203,7 +206,8 @@ module _ (P : Credential → Type 0) (kept : Kept P) (script : Script) (s : Stat
       Waits broadcast.waiting
       (settled (s.tasks ++ new ∷ []) broadcast.waiting tasks
       (All-push Had s.tasks new (grown made.1.creds (same_creds creds))
-      (λ here still. absurd (has_thread s.tasks of broadcast.caller unused (subst (λ p. IsThread s.tasks p broadcast.caller) (at.of ∙ sym here) at.under_way.caller)))))
+      (λ here still. absurd
+      (has_thread s.tasks of broadcast.caller unused (subst (λ p. IsThread s.tasks p broadcast.caller) (at.of ∙ sym here) at.under_way.caller)))))
       (open_still broadcasts)
 
   -- a task's new credential
@@ -245,7 +249,8 @@ module _ (P : Credential → Type 0) (kept : Kept P) (script : Script) (s : Stat
   renews task slot owner c ends (ByBegin call old number at_slot begins has ruled unused idle none broadcasts answered flags) lives tasks creds =
       Waits broadcast.waiting
       (beside ends task slot owner c lives tasks creds (idle_differs s process owner.process broadcast is idle))
-      (ap (found_in process) broadcasts ∙ begun_beside process s.broadcasts (begun number owner call s.tasks) broadcast is ∙ shown_open broadcast at.under_way.some)
+      (ap (found_in process) broadcasts ∙ begun_beside process s.broadcasts (begun number owner call s.tasks) broadcast is
+      ∙ shown_open broadcast at.under_way.some)
   renews task slot owner c ends (ByAct number at_slot in_broadcast old acts opened first has ruled none broadcasts answered flags) lives tasks creds =
       let waiting = filter (λ n. not (n == task)) broadcast.waiting in
       Waits waiting
@@ -253,7 +258,8 @@ module _ (P : Credential → Type 0) (kept : Kept P) (script : Script) (s : Stat
       (λ here still.
       let ways = found (IsUnderWay s.tasks) (λ b. b.number == number) s.broadcasts in_broadcast opened sound.under_way in
       let only = found (λ c. c.process ≡ broadcast.process → c ≡ broadcast) (λ b. b.number == number) s.broadcasts in_broadcast opened at.only in
-      let waiter : IsThread s.tasks in_broadcast.process task = All-at (IsThread s.tasks in_broadcast.process) in_broadcast.waiting 0 task first ways.0.waiting in
+      let waiter : IsThread s.tasks in_broadcast.process task =
+      All-at (IsThread s.tasks in_broadcast.process) in_broadcast.waiting 0 task first ways.0.waiting in
       let thread = thread_is s.tasks in_broadcast.process task waiter in
       let both : Some thread.task ≡ Some owner = sym thread.is ∙ lives in
       let one : thread.task ≡ owner = cc in
@@ -264,7 +270,8 @@ module _ (P : Credential → Type 0) (kept : Kept P) (script : Script) (s : Stat
   renews task slot owner c ends (ByRaw call old at_slot raws has ruled idle none broadcasts answered flags) lives tasks creds =
       Waits broadcast.waiting
       (beside ends task slot owner c lives tasks creds (idle_differs s process owner.process broadcast is idle)) (open_still broadcasts)
-  renews task slot owner c ends (ByCommit label place at_slot count p last commits first there own changed same cred ending broadcasts answered flags) lives tasks creds =
+  renews task slot owner c ends
+      (ByCommit label place at_slot count p last commits first there own changed same cred ending broadcasts answered flags) lives tasks creds =
       committed_goes task slot owner c ends place p last last.change label commits refl there changed same cred ending broadcasts lives tasks creds
 
   -- tasks end
@@ -295,7 +302,8 @@ module _ (P : Credential → Type 0) (kept : Kept P) (script : Script) (s : Stat
             let other : process ≢ in_broadcast.process = λ same. eqb-false in_broadcast.process process test (sym same) in
             Waits broadcast.waiting
             (settled (survivors ends s.tasks) broadcast.waiting tasks (had ends made.1.creds (same_creds creds)))
-            (ap (found_in process) broadcasts ∙ dropped_beside process in_broadcast.process s.broadcasts broadcast other is ∙ shown_open broadcast at.under_way.some)
+            (ap (found_in process) broadcasts ∙ dropped_beside process in_broadcast.process s.broadcasts broadcast other is
+            ∙ shown_open broadcast at.under_way.some)
       ] refl
 
   pub goes : TasksChange script s event made → (more : List SealedCred) × (made.1.creds ≡ s.creds ++ more) → Goes

@@ -28,8 +28,7 @@ use Rattle.cred_sound.proofs.Parts.{sealed_cred, Cause, Creation, CredsChange, T
 use Rattle.cred_sound.proofs.Parts.{SameTasks, SetsFlag, Creates, Shares, Renews, Overrides, Fewer}
 use Rattle.cred_sound.proofs.Events.{changes}
 use Rattle.cred_laws.specs.Made.{IsChangedFrom, IsMade, AreMade}
-use Rattle.cred_laws.specs.Permitted.{GainsBy, PermittedGains, IsCreatedWith}
-use Rattle.cred_laws.specs.Permitted.{NewTasksAreCreated}
+use Rattle.cred_laws.specs.Permitted.{GainsBy, PermittedGains, IsCreatedWith, NewTasksAreCreated}
 use Rattle.cred_laws.proofs.ChangeLaws.{change_gains}
 use Rattle.cred_laws.proofs.OverrideLaws.{leaves_current}
 
@@ -62,7 +61,9 @@ still_before : (s : State) (more : List Task) (creds : List SealedCred) (task : 
     → current_in s.tasks creds task ≡ Some c → current_in (s.tasks ++ more) creds task ≡ Some c
 still_before s more creds task c is =
     ap (option_and_then (λ (t : Task). numbered creds t.current)) (find-append (λ (t : Task). t.number == task) s.tasks more)
-    ∙ elim (find (λ t. t.number == task) s.tasks) as (λ o. option_and_then (λ (t : Task). numbered creds t.current) o ≡ Some c → option_and_then (λ (t : Task). numbered creds t.current) (option_or o (find (λ t. t.number == task) more)) ≡ Some c) [
+    ∙ elim (find (λ t. t.number == task) s.tasks) as
+    (λ o. option_and_then (λ (t : Task). numbered creds t.current) o ≡ Some c
+    → option_and_then (λ (t : Task). numbered creds t.current) (option_or o (find (λ t. t.number == task) more)) ≡ Some c) [
       | None ↦ λ none. cc
       | Some t ↦ λ some. some
     ] is
@@ -109,13 +110,16 @@ called_gains s task old before call c current is ruled =
 caused_gains : (script : Script) (s : State) (event : Event) (task : ℕ) (owner : Task) (ends : Task → Bool) (old : Numbered) (c : Credential)
     (made : Answer × State) → AreMade script s → current_of s task ≡ Some old → owner.current ≡ old.number
     → Cause s event task owner ends c made → less c.perm old.cred.perm ≡ gain_told made.0
-caused_gains script s event task owner ends old c made are current number (ByBegin call before line slot by is ruled unused idle none broadcasts answered flags) =
+caused_gains script s event task owner ends old c made are current number
+    (ByBegin call before line slot by is ruled unused idle none broadcasts answered flags) =
     called_gains s task old before call c current is ruled ∙ ap gain_told (sym answered)
-caused_gains script s event task owner ends old c made are current number (ByAct line slot broadcast before by opened first is ruled none broadcasts answered flags) =
+caused_gains script s event task owner ends old c made are current number
+    (ByAct line slot broadcast before by opened first is ruled none broadcasts answered flags) =
     called_gains s task old before broadcast.call c current is ruled ∙ ap gain_told (sym answered)
 caused_gains script s event task owner ends old c made are current number (ByRaw call before slot by is ruled idle none broadcasts answered flags) =
     called_gains s task old before call c current is ruled ∙ ap gain_told (sym answered)
-caused_gains script s event task owner ends old c made are current number (ByCommit label place slot count p last by first is own changed same cred ending broadcasts answered flags) =
+caused_gains script s event task owner ends old c made are current number
+    (ByCommit label place slot count p last by first is own changed same cred ending broadcasts answered flags) =
     let one = All-at (IsMade script s.creds) s.prepared place p is are in
     let so = subst (λ o. IfSome o (IsChangedFrom script (numbered s.creds p.base))) changed one in
     let base : numbered s.creds p.base ≡ Some old = ap (numbered s.creds) (sym same ∙ number) ∙ under_number s task old current in
@@ -193,7 +197,8 @@ goes_by script s event left made task before after sound creds (Renews acting sl
     let creds_after = s.creds ++ sealed_cred c slot ∷ [] in
     let at = current_is s task before is in
     let rest = survivors ends s.tasks in
-    let seen : option_and_then (λ (t : Task). numbered creds_after t.current) (option_map (updated acting (length s.creds)) (find (λ (t : Task). t.number == task) rest)) ≡ Some after
+    let seen : option_and_then (λ (t : Task). numbered creds_after t.current)
+    (option_map (updated acting (length s.creds)) (find (λ (t : Task). t.number == task) rest)) ≡ Some after
     = sym (ap (λ creds. current_in made.1.tasks creds task) sealed
     ∙ ap (λ ts. current_in ts creds_after task) tasks
     ∙ ap (option_and_then (λ (t : Task). numbered creds_after t.current)) (updated_task rest acting (length s.creds) task)) ∙ now in

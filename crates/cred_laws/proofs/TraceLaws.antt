@@ -70,7 +70,8 @@ traced script s from hold to target mode =
     let may =
     may_trace own.cred other.cred (sender.process == receiver.process) (reaches script.namespaces own.cred.ns other.cred.ns)
     (is_dumpable s.dumpable receiver.process) mode in
-    elim may as (λ b. may ≡ b → answer_of (cond {A = Result (Answer × State) Answer} b (Ok (Done, s)) (Err Eperm)) ≡ Done → Traced script s from hold to target mode) [
+    elim may as
+    (λ b. may ≡ b → answer_of (cond {A = Result (Answer × State) Answer} b (Ok (Done, s)) (Err Eperm)) ≡ Done → Traced script s from hold to target mode) [
       | true ↦ λ is answered. record {
         sender = sender;
         receiver = receiver;
@@ -298,7 +299,8 @@ cause_clears s event task owner ends c made before found is differ (ByBegin call
     ap (λ fs. is_dumpable fs owner.process) flags
     ∙ ap (λ b. is_dumpable (renewed s.dumpable owner.process b) owner.process) (ap (λ (n : Numbered). differs n.cred c) (sym one) ∙ differ)
     ∙ set_clear s.dumpable owner.process
-cause_clears s event task owner ends c made before found is differ (ByAct number slot broadcast old acts opened first has ruled none broadcasts answered flags) =
+cause_clears s event task owner ends c made before found is differ
+    (ByAct number slot broadcast old acts opened first has ruled none broadcasts answered flags) =
     let one = one_found (current_of s task) before old is has in
     ap (λ fs. is_dumpable fs owner.process) flags
     ∙ ap (λ b. is_dumpable (renewed s.dumpable owner.process b) owner.process) (ap (λ (n : Numbered). differs n.cred c) (sym one) ∙ differ)
@@ -308,7 +310,8 @@ cause_clears s event task owner ends c made before found is differ (ByRaw call o
     ap (λ fs. is_dumpable fs owner.process) flags
     ∙ ap (λ b. is_dumpable (renewed s.dumpable owner.process b) owner.process) (ap (λ (n : Numbered). differs n.cred c) (sym one) ∙ differ)
     ∙ set_clear s.dumpable owner.process
-cause_clears s event task owner ends c made before found is differ (ByCommit label place slot count p last commits first at own changed same cred ending broadcasts answered flags) =
+cause_clears s event task owner ends c made before found is differ
+    (ByCommit label place slot count p last commits first at own changed same cred ending broadcasts answered flags) =
     let here : numbered s.creds owner.current ≡ Some before = sym (ap (option_and_then (λ (t : Task). numbered s.creds t.current)) found) ∙ is in
     let other : differs_by s owner last ≡ true
     = ap (λ (o : Option Numbered). option_map_or (λ old. differs old.cred last.cred) o false) here
@@ -399,7 +402,8 @@ module _ (script : Script) (s : State) (line : ℕ) (event : Event) (process : �
   -- a first task
   begins : (other : ℕ) → is_dumpable (flags_begun s other) process ≡ false
   begins other =
-      elim (is_some (find (is_thread_of other) s.tasks)) as (λ b. is_some (find (is_thread_of other) s.tasks) ≡ b → is_dumpable (cond b s.dumpable (with_process_flag s.dumpable other true)) process ≡ false) [
+      elim (is_some (find (is_thread_of other) s.tasks)) as
+      (λ b. is_some (find (is_thread_of other) s.tasks) ≡ b → is_dumpable (cond b s.dumpable (with_process_flag s.dumpable other true)) process ≡ false) [
         | true ↦ λ live. clear
         | false ↦ λ none. with_stays s.dumpable other process true (has_other s.tasks process other has none) clear
       ] refl

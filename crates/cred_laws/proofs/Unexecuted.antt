@@ -39,8 +39,7 @@ use Rattle.cred_model.specs.Ptrace.{may_trace}
 use Rattle.cred_model.specs.Dumpable.{is_dumpable, differs, renewed, flags_begun, flag_of_value}
 use Rattle.cred_model.specs.Answers.{refusal, flag, checked, reply}
 use Rattle.cred_model.specs.Change.{Made, made_by_rule, made_by_exec, by_rule, by_change}
-use Rattle.cred_model.specs.Moves.{none_or, fewer_or, unless_refused, not_overridden}
-use Rattle.cred_model.specs.Moves.{in_slot}
+use Rattle.cred_model.specs.Moves.{none_or, fewer_or, unless_refused, not_overridden, in_slot}
 use Rattle.cred_model.specs.Moves.{table_full, first_task, created, preparing, replaced}
 use Rattle.cred_model.specs.Step.{take_hold, for_access, aborted, follow, by_file, done, outcome}
 
@@ -200,7 +199,10 @@ follow_plain s broadcast task owner old (Ok new) =
     slot_plain s (λ t. (answer.Aborted task cause.Full, aborted broadcast t))
     (λ t slot. (
       answer.Acted task (length t.creds) slot (length broadcast.waiting - 1),
-      record (replaced t task old.number new slot) { broadcasts = waits_no_more task t.broadcasts; dumpable = renewed t.dumpable owner.process (differs old.cred new) },
+      record (replaced t task old.number new slot) {
+        broadcasts = waits_no_more task t.broadcasts;
+        dumpable = renewed t.dumpable owner.process (differs old.cred new);
+      },
     ))
     (λ t. refl) (λ t slot. refl)
 
@@ -222,8 +224,7 @@ plain script s line (Init task process user group ns) other =
     (λ t slot. (
       answer.Sealed (length t.creds) slot,
       record (created t (first_task task process (length t.creds)) (first_credential user group ns (root_of script ns)) slot) {
-        dumpable = flags_begun t
-            process;
+        dumpable = flags_begun t process;
       },
     ))
     (λ t. refl) (λ t slot. refl))))
@@ -281,7 +282,10 @@ plain script s line (Begin task call) other =
     slot_plain s table_full
     (λ t slot. (
       answer.Began (length t.creds) slot (length others),
-      record (replaced t task old.number new slot) { broadcasts = with_broadcast t.broadcasts broadcast; dumpable = renewed t.dumpable owner.process (differs old.cred new) },
+      record (replaced t task old.number new slot) {
+        broadcasts = with_broadcast t.broadcasts broadcast;
+        dumpable = renewed t.dumpable owner.process (differs old.cred new);
+      },
     ))
     (λ t. refl) (λ t slot. refl)))))))
 plain script s line (Act number) other =

@@ -120,7 +120,8 @@ set_id_valid c d (SetGroups list) valid same = setgroups_valid c d list valid sa
 
 fs_within : (c : Credential) (old new : ℕ) → IsValid c → IsWithin (fs_effective c old new) c.perm
 fs_within c old new valid =
-    elim (is_root c old && not (is_root c new)) as (λ b. IsWithin (cond b (less c.eff FILE_CAPS) (cond (not (is_root c old) && is_root c new) (union c.eff (meet FILE_CAPS c.perm)) c.eff)) c.perm) [
+    elim (is_root c old && not (is_root c new)) as
+    (λ b. IsWithin (cond b (less c.eff FILE_CAPS) (cond (not (is_root c old) && is_root c new) (union c.eff (meet FILE_CAPS c.perm)) c.eff)) c.perm) [
       | true ↦ meet-within_left c.eff _ c.perm valid.effective
       | false ↦ elim (not (is_root c old) && is_root c new) as (λ b. IsWithin (cond b (union c.eff (meet FILE_CAPS c.perm)) c.eff) c.perm) [
         | true ↦ union-within c.eff (meet FILE_CAPS c.perm) c.perm valid.effective (meet-right FILE_CAPS c.perm)

@@ -27,7 +27,10 @@ use Rattle.cred_machine.proofs.Seen.{placed}
 act_does : (task : ℕ) (owner : Task) (old : Numbered) (new : Credential) (broadcast : Broadcast) → State → ℕ → Answer × State
 act_does task owner old new broadcast s slot = (
   Acted task (length s.creds) slot (length broadcast.waiting - 1),
-  record (replaced s task old.number new slot) { broadcasts = waits_no_more task s.broadcasts; dumpable = renewed s.dumpable owner.process (differs old.cred new) },
+  record (replaced s task old.number new slot) {
+    broadcasts = waits_no_more task s.broadcasts;
+    dumpable = renewed s.dumpable owner.process (differs old.cred new);
+  },
 )
 
 -- the least task that waits in the broadcast of this number, and its credential; and where the
@@ -117,8 +120,7 @@ module _ (s : State) (number task broadcast_at : ℕ) (broadcast : Broadcast) (o
           Acted task (length s.creds) slot left,
           record (replaced (swept_if sweep s) task old.number new slot) {
             broadcasts = waits_no_more task s.broadcasts;
-            dumpable = renewed s.dumpable owner.process
-                (differs old.cred new);
+            dumpable = renewed s.dumpable owner.process (differs old.cred new);
           },
         )
     unfolding act_does
@@ -130,7 +132,10 @@ module _ (s : State) (number task broadcast_at : ℕ) (broadcast : Broadcast) (o
         ∙ ap
         (λ (k : ℕ). (
           Acted task (length s.creds) slot k,
-          record (replaced (swept_if sweep s) task old.number new slot) { broadcasts = waits_no_more task s.broadcasts; dumpable = renewed s.dumpable owner.process (differs old.cred new) },
+          record (replaced (swept_if sweep s) task old.number new slot) {
+            broadcasts = waits_no_more task s.broadcasts;
+            dumpable = renewed s.dumpable owner.process (differs old.cred new);
+          },
         ))
         fewer
       where
@@ -145,8 +150,7 @@ module _ (s : State) (number task broadcast_at : ℕ) (broadcast : Broadcast) (o
               Acted task (length s.creds) slot (length broadcast.waiting - 1),
               record (replaced (swept_if b s) task old.number new slot) {
                 broadcasts = waits_no_more task s.broadcasts;
-                dumpable = renewed s.dumpable owner.process
-                    (differs old.cred new);
+                dumpable = renewed s.dumpable owner.process (differs old.cred new);
               },
             )
         same true = refl

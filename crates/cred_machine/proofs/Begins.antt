@@ -90,9 +90,11 @@ same_answer given made (Ok answer) after is gives = is ∙ gives
 same_answer given made (Err e) after is gives = tt
 
 -- The broadcast is open, and then its caller's credential is replaced.
-pub opens : (s : State) (broadcast : Broadcast) (old : ℕ) (made : Credential) (other : Bool) (slot : ℕ) (sweep : Bool) (number left : ℕ) (broadcasts : List Broadcast)
+pub opens : (s : State) (broadcast : Broadcast) (old : ℕ) (made : Credential) (other : Bool) (slot : ℕ) (sweep : Bool) (number left : ℕ)
+    (broadcasts : List Broadcast)
     (after : State) (flags : List ProcessFlag)
-    → free s ≡ Some slot → sweep ≡ not (is_some (least_free s)) → number ≡ length s.creds → left ≡ length broadcast.waiting → broadcasts ≡ with_broadcast s.broadcasts broadcast
+    → free s ≡ Some slot → sweep ≡ not (is_some (least_free s)) → number ≡ length s.creds → left ≡ length broadcast.waiting
+    → broadcasts ≡ with_broadcast s.broadcasts broadcast
     → after ≡ replaced (swept_if sweep (record s { broadcasts = broadcasts })) broadcast.caller old made slot
     → flags ≡ renewed after.dumpable broadcast.process other
     → in_slot s table_full (λ r at. begun r broadcast old made other at) ≡ (Began number slot left, record after { dumpable = flags })
@@ -104,7 +106,9 @@ opens s broadcast old made other slot sweep number left broadcasts after flags f
         → ◌≡◌ {A = Answer × State} (begun (swept_if b s) broadcast old made other slot) (
           Began (length s.creds) slot (length broadcast.waiting),
           record (replaced (swept_if b (record s { broadcasts = with_broadcast s.broadcasts broadcast })) broadcast.caller old made slot) {
-            dumpable = renewed (replaced (swept_if b (record s { broadcasts = with_broadcast s.broadcasts broadcast })) broadcast.caller old made slot).dumpable broadcast.process other;
+            dumpable =
+                renewed (replaced (swept_if b (record s { broadcasts = with_broadcast s.broadcasts broadcast })) broadcast.caller old made slot).dumpable
+                broadcast.process other;
           },
         )
     same true = refl

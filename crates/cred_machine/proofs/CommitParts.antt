@@ -107,14 +107,16 @@ module _ (s : State) (place : ℕ) (p : Prepared) (owner : Task) (last : Changed
       → creds ≡ old ++ record { cred = cred; slot = p.slot } ∷ []
       → Commits s place answer (record s { tasks = tasks; broadcasts = broadcasts; prepared = prepared; deferred = late; dumpable = flags; creds = creds })
   unfolding with_parts
-  commits ending answer number ended cred tasks goes_on broadcasts prepared numbers late flags other old creds current ends many same count answers ts goes cs ps left ls fs ids copied es =
+  commits ending answer number ended cred tasks goes_on broadcasts prepared numbers late flags other
+      old creds current ends many same count answers ts goes cs ps left ls fs ids copied es =
       let now = ending_of last.change owner.process p.task in
       let own = owner_number s p.task owner is.lives in
       let next : number ≡ length s.creds = many ∙ ap length same in
       let by_ending : Ending → List Task = λ e. with_current (survivors (ends_by e) s.tasks) p.task (length s.creds) in
       let late_by : Ending → List ℕ = λ e. s.deferred ++ (left_by (ends_by e) s.tasks ++ owner.current ∷ p.base ∷ []) in
       let parts : with_parts tasks broadcasts prepared late flags creds
-      ≡ with_parts (by_ending now) (broadcasts_left last.change owner.process s.broadcasts) (remove s.prepared place) (late_by now) (flags_committed s owner last)
+      ≡ with_parts (by_ending now) (broadcasts_left last.change owner.process s.broadcasts) (remove s.prepared place) (late_by now)
+      (flags_committed s owner last)
       (s.creds ++ record { cred = last.cred; slot = p.slot } ∷ [])
       = same_parts
       (ts ∙ ap (λ (us : List Task). with_current us p.task number) goes

@@ -20,7 +20,8 @@ ends_are (SetFs kind id) owner task same = refl
 ends_are (Adjust call) owner task same = refl
 ends_are Access owner task same = refl
 
-broadcasts_are : (change : Change) (owner : Task) (s : State) → broadcasts_after change owner s ≡ record s { broadcasts = broadcasts_left change owner.process s.broadcasts }
+broadcasts_are : (change : Change) (owner : Task) (s : State)
+    → broadcasts_after change owner s ≡ record s { broadcasts = broadcasts_left change owner.process s.broadcasts }
 broadcasts_are (Exec file) owner s = refl
 broadcasts_are (SetFs kind id) owner s = refl
 broadcasts_are (Adjust call) owner s = refl

@@ -4,13 +4,13 @@ use Rattle.cred_record.specs.Credential.{Credential, first_credential}
 use Rattle.cred_record.specs.declared.id_call.IdCall.{IdCall}
 use Rattle.cred_rules.specs.SetId.{set_id}
 use Rattle.cred_event.specs.declared.answer.Answer.TheVariants.{Done, Kept, Sealed}
-use Rattle.cred_model.specs.State.{State, Broadcast, Changed, Hold, Prepared, Task, Numbered, begun_by, broadcast_in, broadcast_of, hold_of, numbered, prepared_of}
+use Rattle.cred_model.specs.State.{State, Broadcast, Changed, Hold, Prepared, Task, Numbered, begun_by, broadcast_in, broadcast_of, hold_of, numbered}
+use Rattle.cred_model.specs.State.{prepared_of}
 use Rattle.cred_model.specs.State.{task_of}
 use Rattle.cred_model.specs.Casts.{joined, not_busy, waits_no_more, others_of}
 use Rattle.cred_model.specs.Dumpable.{differs, flags_begun, flags_left, is_dumpable, with_process_flag}
 use Rattle.cred_model.specs.Ends.{is_task, is_thread_of, left_by, survivors}
-use Rattle.cred_model.specs.Moves.{created, first_task, in_slot, not_overridden, preparing}
-use Rattle.cred_model.specs.Moves.{table_full}
+use Rattle.cred_model.specs.Moves.{created, first_task, in_slot, not_overridden, preparing, table_full}
 use Rattle.cred_model.specs.Step.{by_begin, by_commit, by_exit, by_fork, by_init, by_prepare, by_spawn, outcome, try_commit, for_task}
 use Rattle.std.specs.Option.{option_and_then}
 use Rattle.cred_ids.specs.Limits.{PREPARED, TASKS}

@@ -54,7 +54,8 @@ creates s left slot task process c is =
     }
 
 -- a task more that shares a credential
-pub shares : (s : State) (answer : Answer) (new : Task) (broadcasts : List Broadcast) → Keeps s (answer, record s { tasks = s.tasks ++ new ∷ []; broadcasts = broadcasts })
+pub shares : (s : State) (answer : Answer) (new : Task) (broadcasts : List Broadcast)
+    → Keeps s (answer, record s { tasks = s.tasks ++ new ∷ []; broadcasts = broadcasts })
 shares s answer new broadcasts =
     let t = record s { tasks = s.tasks ++ new ∷ []; broadcasts = broadcasts } in
     let own = own_refs t in
@@ -90,7 +91,10 @@ renewed s tasks task new owner are found own =
     let there : task_of s task ≡ Some (updated task new owner)
     = ap (λ (ts : List Task). find (λ t. t.number == task) ts) are ∙ updated_task tasks task new task ∙ ap (option_map (updated task new)) found in
     subst (Contains (refs s))
-    (elim (owner.number == task) as (λ b. b ≡ true → (cond b (record owner { current = new }) owner).current ≡ new) [ true ↦ λ is. refl | false ↦ λ is. cc ] (is_same owner.number task own))
+    (elim (owner.number == task) as (λ b. b ≡ true → (cond b (record owner { current = new }) owner).current ≡ new) [
+      | true ↦ λ is. refl
+      | false ↦ λ is. cc
+    ] (is_same owner.number task own))
     (owner_stands s task (updated task new owner) there)
   where
     is_same : (m n : ℕ) → m ≡ n → (m == n) ≡ true
@@ -174,7 +178,10 @@ tries_commit s place p owner last sound is found =
     let ends = ends_with last.change owner in
     let answer = commit_answer last (length s.creds) p.slot (count_by ends s.tasks) in
     let t = committed (ended ends s) place p owner.current last.cred in
-    elim (owner.current == p.base) as (λ b. Keeps s (cond {A = Answer × State} b (answer, record (broadcasts_after last.change owner t) { dumpable = flags_committed s owner last }) (Stale p.base owner.current, given_up s place p))) [
+    elim (owner.current == p.base) as
+    (λ b. Keeps s
+    (cond {A = Answer × State} b (answer, record (broadcasts_after last.change owner t) { dumpable = flags_committed s owner last })
+    (Stale p.base owner.current, given_up s place p))) [
       | true ↦ with_flags s (broadcasts_after last.change owner t) answer (flags_committed s owner last)
           (commits_broadcasts s t answer last.change owner (commits s answer place p ends owner last.cred sound is found (not_itself last.change owner)))
       | false ↦ gives_up_prepared s (Stale p.base owner.current) place p is

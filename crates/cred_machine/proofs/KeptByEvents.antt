@@ -105,7 +105,8 @@ pub refused : (s : State) (answer : Answer) → Keeps s (answer, s)
 refused s answer = still s answer s.deferred (inl refl)
 
 -- broadcasts refer to nothing
-pub with_broadcasts : (s t : State) (answer : Answer) (broadcasts : List Broadcast) → Keeps s (answer, t) → Keeps s (answer, record t { broadcasts = broadcasts })
+pub with_broadcasts : (s t : State) (answer : Answer) (broadcasts : List Broadcast) → Keeps s (answer, t)
+    → Keeps s (answer, record t { broadcasts = broadcasts })
 with_broadcasts s t answer broadcasts keeps = record { left = keeps.left; each = by keeps.each; swept = keeps.swept; creds = more keeps.creds }
   where
     by : EachRef (Contains (refs t)) (with_left s keeps.left) → EachRef (Contains (refs t)) (with_left s keeps.left)

@@ -28,7 +28,9 @@ last_of P xs x each = All-head P x [] (All-right P xs (x ∷ []) each)
 both_ways : {X : Type 0} (P : X → Type 0) (p : X → Bool) (xs : List X) → All P (filter (λ x. not (p x)) xs) → All P (filter p xs) → All P xs
 both_ways P p [] on off = All-nil P
 both_ways P p (x ∷ xs) on off =
-    elim (p x) as (λ b. All P (cond (not b) (x ∷ filter (λ y. not (p y)) xs) (filter (λ y. not (p y)) xs)) → All P (cond b (x ∷ filter p xs) (filter p xs)) → All P (x ∷ xs)) [
+    elim (p x) as
+    (λ b. All P (cond (not b) (x ∷ filter (λ y. not (p y)) xs) (filter (λ y. not (p y)) xs)) → All P (cond b (x ∷ filter p xs) (filter p xs))
+    → All P (x ∷ xs)) [
       | true ↦ λ on off. All-cons P x xs (All-head P x (filter p xs) off) (both_ways P p xs on (All-tail P x (filter p xs) off))
       | false ↦ λ on off.
           let rest = filter (λ y. not (p y)) xs in

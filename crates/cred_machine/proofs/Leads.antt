@@ -6,7 +6,8 @@ use Rattle.cred_event.specs.declared.answer.AbortCause.{AbortCause}
 use Rattle.cred_event.specs.declared.answer.Answer.{Answer}
 use Rattle.cred_event.specs.declared.answer.Answer.TheVariants.{Done, Kept, Sealed, TableFull}
 use Rattle.cred_record.specs.Credential.{Credential, first_credential}
-use Rattle.cred_model.specs.State.{State, Broadcast, Hold, Prepared, SealedCred, Task, Numbered, ProcessFlag, begun_by, broadcast_in, hold_of, numbered, prepared_of}
+use Rattle.cred_model.specs.State.{State, Broadcast, Hold, Prepared, SealedCred, Task, Numbered, ProcessFlag, begun_by, broadcast_in, hold_of, numbered}
+use Rattle.cred_model.specs.State.{prepared_of}
 use Rattle.cred_model.specs.State.{task_of}
 use Rattle.cred_model.specs.Slots.{free, least_free, swept}
 use Rattle.cred_model.specs.Casts.{dropped, joined, not_busy, waits_no_more}
@@ -38,7 +39,8 @@ flags_unless s process other = if other then s.dumpable else without_flag s.dump
 pub exit_leads : (s : State) (task : ℕ) (owner : Task) (tasks : List Task) (broadcasts : List Broadcast) (late numbers : List ℕ) (flags : List ProcessFlag)
     (other : Bool)
     → task_of s task ≡ Some owner → not_busy (begun_by s task) ≡ Ok tt → not_overridden owner ≡ Ok tt
-    → tasks ≡ survivors (is_task task) s.tasks → broadcasts ≡ waits_no_more task s.broadcasts → late ≡ s.deferred ++ numbers → numbers ≡ left_by (is_task task) s.tasks
+    → tasks ≡ survivors (is_task task) s.tasks → broadcasts ≡ waits_no_more task s.broadcasts → late ≡ s.deferred ++ numbers
+    → numbers ≡ left_by (is_task task) s.tasks
     → flags ≡ (if other then s.dumpable else without_flag s.dumpable owner.process) → other ≡ is_some (find (is_other_thread owner.process task) s.tasks)
     → outcome s (by_exit s task) ≡ (Done, record s { tasks = tasks; broadcasts = broadcasts; deferred = late; dumpable = flags })
 unfolding with_parts flags_unless
@@ -49,7 +51,8 @@ exit_leads s task owner tasks broadcasts late numbers flags other lives idle own
     (fs ∙ ap (flags_unless s owner.process)
     (is ∙ ap (λ (n : ℕ). is_some (find (is_other_thread owner.process n) s.tasks)) (sym (owner_number s task owner lives))))))
 
-pub process_ended : (s : State) (process : ℕ) (tasks : List Task) (broadcasts : List Broadcast) (late numbers : List ℕ) (flags : List ProcessFlag) (sweep : Bool)
+pub process_ended : (s : State) (process : ℕ) (tasks : List Task) (broadcasts : List Broadcast) (late numbers : List ℕ) (flags : List ProcessFlag)
+    (sweep : Bool)
     → tasks ≡ survivors (is_thread_of process) s.tasks → broadcasts ≡ dropped process s.broadcasts → flags ≡ without_flag s.dumpable process
     → late ≡ (if sweep then [] else s.deferred) ++ numbers → numbers ≡ left_by (is_thread_of process) s.tasks
     → (cause : AbortCause) → at_abort cause s ≡ (if sweep then record s { deferred = [] } else s)

@@ -254,7 +254,10 @@ acted s after number task cred slot left some is =
           own
           ∙ ap
           (λ (t : ℕ).
-          record (replaced s t c.0.current e.0 slot) { broadcasts = waits_no_more b.0 s.broadcasts; dumpable = renewed s.dumpable c.0.process (differs d.0.cred e.0) })
+          record (replaced s t c.0.current e.0 slot) {
+            broadcasts = waits_no_more b.0 s.broadcasts;
+            dumpable = renewed s.dumpable c.0.process (differs d.0.cred e.0);
+          })
           e.1;
     }
 

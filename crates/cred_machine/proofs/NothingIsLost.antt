@@ -29,7 +29,8 @@ use Rattle.cred_model.specs.Moves.{created, first_task, preparing, replaced, tab
 use Rattle.cred_model.specs.Named.{change_files}
 use Rattle.cred_model.specs.Ptrace.{may_trace}
 use Rattle.cred_model.specs.Script.{Script, chain_of, reaches, root_of}
-use Rattle.cred_model.specs.State.{State, Task, Broadcast, Prepared, Numbered, begun_by, broadcast_in, broadcast_of, credential_of, held_by, hold_of, info_of, numbered}
+use Rattle.cred_model.specs.State.{State, Task, Broadcast, Prepared, Numbered, begun_by, broadcast_in, broadcast_of, credential_of, held_by, hold_of, info_of}
+use Rattle.cred_model.specs.State.{numbered}
 use Rattle.cred_model.specs.State.{open_of, opener_of, prepared_of, task_of}
 use Rattle.cred_model.specs.Step.{aborted, by_file, by_raw, by_stat, follow, for_access, for_task, outcome, step}
 use Rattle.cred_sound.specs.Sound.{IsSound}
@@ -177,7 +178,10 @@ begin_keeps script s line task call sound =
     in_slots Q s table_full
     (λ s slot. (
       Began (length s.creds) slot (length others),
-      record (replaced s task old.number new slot) { broadcasts = with_broadcast s.broadcasts broadcast; dumpable = renewed s.dumpable owner.process (differs old.cred new) },
+      record (replaced s task old.number new slot) {
+        broadcasts = with_broadcast s.broadcasts broadcast;
+        dumpable = renewed s.dumpable owner.process (differs old.cred new);
+      },
     ))
     (full s)
     (λ left slot is.
@@ -197,7 +201,10 @@ follow_keeps s broadcast task owner old (Ok new) sound found at =
     in_slots (Keeps s) s (λ now. (Aborted task cause.Full, aborted broadcast now))
     (λ now slot. (
       Acted task (length now.creds) slot left_waiting,
-      record (replaced now task old.number new slot) { broadcasts = waits_no_more task now.broadcasts; dumpable = renewed now.dumpable owner.process (differs old.cred new) },
+      record (replaced now task old.number new slot) {
+        broadcasts = waits_no_more task now.broadcasts;
+        dumpable = renewed now.dumpable owner.process (differs old.cred new);
+      },
     ))
     (λ left is.
     let answer = Aborted task cause.Full in

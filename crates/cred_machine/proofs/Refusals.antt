@@ -41,7 +41,8 @@ is_full true full is no_more = sym no_more ∙ is
 is_full false full is no_more = refl
 
 -- a task that would create another
-module _ (s : State) (task child process : ℕ) (owner : Task) (parent : Numbered) (lives : task_of s task ≡ Some owner) (has : numbered s.creds owner.current ≡ Some parent) where
+module _ (s : State) (task child process : ℕ) (owner : Task) (parent : Numbered) (lives : task_of s task ≡ Some owner)
+    (has : numbered s.creds owner.current ≡ Some parent) where
   pub spawn_busy : (answer : Answer) → not_busy (begun_by s task) ≡ Err answer → outcome s (by_spawn s task child) ≡ (answer, s)
   spawn_busy answer busy = rw (lives, has, busy) refl
 

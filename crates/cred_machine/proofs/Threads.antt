@@ -38,6 +38,7 @@ are_broadcasts s sound = record {
   some = λ k d lt. (sound.under_way k d lt).some;
 }
 
-pub waits_rising : (s : State) (number : ℕ) (broadcast : Broadcast) → IsSound s → broadcast_of s number ≡ Some broadcast → AllPairs (λ m n. m < n) broadcast.waiting
+pub waits_rising : (s : State) (number : ℕ) (broadcast : Broadcast) → IsSound s → broadcast_of s number ≡ Some broadcast
+    → AllPairs (λ m n. m < n) broadcast.waiting
 waits_rising s number broadcast sound is =
     (found (IsUnderWay s.tasks) (λ (b : Broadcast). b.number == number) s.broadcasts broadcast is sound.under_way).0.rising

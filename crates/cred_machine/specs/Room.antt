@@ -35,7 +35,8 @@ begun s broadcast old made other slot = (
 )
 
 -- The same of a call of one thread alone: no other thread waits.
-abbrev pub called_alone : State → (task process old : ℕ) → Credential → Bool → ℕ → Answer × State
+abbrev pub called_alone : State → (task process old : ℕ) → Credential → Bool → (slot : ℕ)
+    → Answer × State
 called_alone s task process old made other slot = (
   Sealed (length s.creds) slot,
   record (replaced s task old made slot) { dumpable = renewed s.dumpable process other },

@@ -15,8 +15,7 @@ use Rattle.cred_event.specs.declared.answer.Answer.TheVariants.{Stale}
 use Rattle.cred_event.specs.declared.content.Content.{Content}
 use Rattle.cred_event.specs.declared.content.Content.TheVariants.{Nothing, One, Id, Question, Open, Fcap, Signal, Ptrace, Change, Access, OnFile}
 use Rattle.cred_event.specs.Answers.{is_ok}
-use Rattle.cred_model.specs.Course.{Course, start, event_in, event_at, either, some_wait}
-use Rattle.cred_model.specs.Course.{next_stage, is_stale, next_try, after, most, left, is_bounded}
+use Rattle.cred_model.specs.Course.{Course, start, event_in, event_at, either, some_wait, next_stage, is_stale, next_try, after, most, left, is_bounded}
 use Rattle.cred_model.specs.Course.{leads, Leads}
 
 -- ---- each event is followed by fewer
@@ -129,7 +128,9 @@ goes_on content course stage (Some to) here after = record {
 begins_again : (content : Content) (course : Course) → course.stage ≡ Some Committing → IsStageOf content Committing
     → Follows content course (next_try course)
 begins_again (Change task change) course here is =
-    elim (nat_lt course.tries TRIES) as (λ b. nat_lt course.tries TRIES ≡ b → Follows (Change task change) course (cond b (record course { stage = Some Retrying; tries = course.tries + 1 }) (record course { stage = Some Releasing }))) [
+    elim (nat_lt course.tries TRIES) as
+    (λ b. nat_lt course.tries TRIES ≡ b → Follows (Change task change) course
+    (cond b (record course { stage = Some Retrying; tries = course.tries + 1 }) (record course { stage = Some Releasing }))) [
       | true ↦ λ test. record {
         fits = λ line. refl;
         falls = λ bounded. rw here (let few : course.tries < 8 = grind (arith, nat_tests) in omega arith);
@@ -149,11 +150,14 @@ follows-by content course stage answer here is =
 -- an answer leads no line to another
 pub after_line : (content : Content) (course : Course) (answer : Answer) → (after content course answer).line ≡ course.line
 after_line content course answer =
-    elim (is_stale course.stage answer) as (λ b. (cond b (next_try course) (record course { stage = option_and_then (λ s. next_stage content s answer) course.stage })).line ≡ course.line) [
-      | true ↦ elim (nat_lt course.tries TRIES) as (λ b. (cond b (record course { stage = Some Retrying; tries = course.tries + 1 }) (record course { stage = Some Releasing })).line ≡ course.line) [
-        | true ↦ refl
-        | false ↦ refl
-      ]
+    elim (is_stale course.stage answer) as
+    (λ b. (cond b (next_try course) (record course { stage = option_and_then (λ s. next_stage content s answer) course.stage })).line ≡ course.line) [
+      | true ↦
+          elim (nat_lt course.tries TRIES) as
+          (λ b. (cond b (record course { stage = Some Retrying; tries = course.tries + 1 }) (record course { stage = Some Releasing })).line ≡ course.line) [
+            | true ↦ refl
+            | false ↦ refl
+          ]
       | false ↦ refl
     ]
 

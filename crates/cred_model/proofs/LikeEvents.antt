@@ -42,10 +42,8 @@ use Rattle.cred_model.specs.Answers.{checked}
 use Rattle.cred_model.specs.Change.{by_change, by_rule}
 use Rattle.cred_model.specs.Ends.{is_task, is_thread_of, ended}
 use Rattle.cred_model.specs.Casts.{not_busy, others_of, with_broadcast, waits_no_more, joined, dropped}
-use Rattle.cred_model.specs.Moves.{none_or, fewer_or, unless_refused, not_overridden}
-use Rattle.cred_model.specs.Moves.{table_full}
-use Rattle.cred_model.specs.Moves.{first_task, with_overrides, holding, with_override, with_current}
-use Rattle.cred_model.specs.Moves.{given_up, committed, altered, preparing, created, replaced}
+use Rattle.cred_model.specs.Moves.{none_or, fewer_or, unless_refused, not_overridden, table_full}
+use Rattle.cred_model.specs.Moves.{first_task, with_overrides, holding, with_override, with_current, given_up, committed, altered, preparing, created, replaced}
 use Rattle.cred_model.specs.Step.{try_commit, done, ends_with, broadcasts_after, commit_answer, aborted, follow, take_hold, for_task, for_access, override_held}
 use Rattle.cred_model.specs.Step.{override_prepared, by_file}
 use Rattle.cred_model.specs.Like.{IsLike, AreAlike}
@@ -152,7 +150,8 @@ module _ (script : Script) (s : State) (cs : List SealedCred) (line : ℕ) (like
       (λ receiver. read _ _ (NoHold hold) _ _ (same_held s cs hold like)
       (λ own. read _ _ (NoHold target) _ _ (same_held s cs target like)
       (λ other.
-      elim (may_signal own.cred other.cred (sender.process == receiver.process)) as (λ b. BothAre (cond b (Ok (Done, s)) (Err Eperm)) (cond b (Ok (Done, with s cs)) (Err Eperm))) [
+      elim (may_signal own.cred other.cred (sender.process == receiver.process)) as
+      (λ b. BothAre (cond b (Ok (Done, s)) (Err Eperm)) (cond b (Ok (Done, with s cs)) (Err Eperm))) [
         | true ↦ record { answers = refl; states = like }
         | false ↦ refl
       ]))))
@@ -231,7 +230,12 @@ module _ (script : Script) (s : State) (cs : List SealedCred) (line : ℕ) (like
       let count = count_by ends s.tasks in
       let stale = Stale p.base owner.current in
       let after : State → State → State = λ now before. record (broadcasts_after last.change owner now) { dumpable = flags_committed before owner last } in
-      elim (owner.current == p.base) as (λ b. AreAlike (cond b (commit_answer last (length s.creds) p.slot count, after (committed (ended ends s) place p owner.current last.cred) s) (stale, given_up s place p)) (cond b (commit_answer last (length cs) p.slot count, after (committed (ended ends (with s cs)) place p owner.current last.cred) (with s cs)) (stale, given_up (with s cs) place p))) [
+      elim (owner.current == p.base) as
+      (λ b. AreAlike
+      (cond b (commit_answer last (length s.creds) p.slot count, after (committed (ended ends s) place p owner.current last.cred) s)
+      (stale, given_up s place p))
+      (cond b (commit_answer last (length cs) p.slot count, after (committed (ended ends (with s cs)) place p owner.current last.cred) (with s cs))
+      (stale, given_up (with s cs) place p))) [
         | true ↦ flags_like _ _ _ _ (same_flags owner last now) (broadcasts_like last.change owner _ _ (committed_like place p owner last here now))
         | false ↦ ended_like stale place p here
       ]
@@ -338,8 +342,7 @@ module _ (script : Script) (s : State) (cs : List SealedCred) (line : ℕ) (like
         Began (length now.creds) slot (length others),
         record (replaced now task old.number new slot) {
           broadcasts = with_broadcast now.broadcasts broadcast;
-          dumpable = renewed now.dumpable owner.process
-              (differs old.cred new);
+          dumpable = renewed now.dumpable owner.process (differs old.cred new);
         },
       ))
       like (full_like s cs like.slots)
@@ -371,8 +374,7 @@ module _ (script : Script) (s : State) (cs : List SealedCred) (line : ℕ) (like
         Acted task (length now.creds) slot left,
         record (replaced now task old.number new slot) {
           broadcasts = waits_no_more task now.broadcasts;
-          dumpable = renewed now.dumpable owner.process
-              (differs old.cred new);
+          dumpable = renewed now.dumpable owner.process (differs old.cred new);
         },
       )) like
       (aborted_like cause.Full task broadcast)
@@ -450,7 +452,10 @@ module _ (script : Script) (s : State) (cs : List SealedCred) (line : ℕ) (like
       (λ receiver. read _ _ (NoHold hold) _ _ (same_held s cs hold like)
       (λ own. read _ _ (NoHold target) _ _ (same_held s cs target like)
       (λ other.
-      elim (may_trace own.cred other.cred (sender.process == receiver.process) (reaches script.namespaces own.cred.ns other.cred.ns) (is_dumpable s.dumpable receiver.process) mode) as (λ b. BothAre (cond b (Ok (Done, s)) (Err Eperm)) (cond b (Ok (Done, with s cs)) (Err Eperm))) [
+      elim
+      (may_trace own.cred other.cred (sender.process == receiver.process) (reaches script.namespaces own.cred.ns other.cred.ns)
+      (is_dumpable s.dumpable receiver.process) mode) as
+      (λ b. BothAre (cond b (Ok (Done, s)) (Err Eperm)) (cond b (Ok (Done, with s cs)) (Err Eperm))) [
         | true ↦ record { answers = refl; states = like }
         | false ↦ refl
       ]))))

@@ -60,7 +60,8 @@ same_held s cs label like =
 -- what holds of a number holds of that of the credential under it
 pub numbered_by : (creds : List SealedCred) (n : ℕ) (P : ℕ → Type 0) → P n → IfSome (numbered creds n) (λ c. P c.number)
 numbered_by creds n P holds =
-    elim (slice_get creds n) as (λ o. IfSome (option_map (λ (sealed : SealedCred). record { number = n; cred = sealed.cred; slot = sealed.slot }) o) (λ (c : Numbered). P c.number)) [
+    elim (slice_get creds n) as
+    (λ o. IfSome (option_map (λ (sealed : SealedCred). record { number = n; cred = sealed.cred; slot = sealed.slot }) o) (λ (c : Numbered). P c.number)) [
       | None ↦ tt
       | Some sealed ↦ holds
     ]

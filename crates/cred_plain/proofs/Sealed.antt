@@ -131,7 +131,8 @@ module _ (forgotten : Credential) where
       → find (λ s. s.number == n) (filter (λ s. keep s.number) stored) ≡ None
   none-kept keep [] n none = refl
   none-kept keep (s ∷ ss) n none =
-      elim (keep s.number) as (λ b. keep s.number ≡ b → find (λ t. t.number == n) (cond b (s ∷ filter (λ t. keep t.number) ss) (filter (λ t. keep t.number) ss)) ≡ None) [
+      elim (keep s.number) as
+      (λ b. keep s.number ≡ b → find (λ t. t.number == n) (cond b (s ∷ filter (λ t. keep t.number) ss) (filter (λ t. keep t.number) ss)) ≡ None) [
         | true ↦ λ kept.
             let other : (s.number == n) ≡ false = differs s.number n (keep_differs s.number n kept none) in
             rw other (none-kept keep ss n none)

@@ -186,7 +186,8 @@ begin_back script task call fits =
 act_back : (script : Script) (broadcast : ℕ) → FitsEvent (event.Act broadcast)
     → EventBack script (event.Act broadcast)
 unfolding spec.read_event spec.event_names spec.event_named
-act_back script broadcast fits = with_word (codes "act") (decimal broadcast) refl (decimal_plain broadcast (long_number broadcast fits)) (rw (number_back broadcast fits) refl)
+act_back script broadcast fits =
+    with_word (codes "act") (decimal broadcast) refl (decimal_plain broadcast (long_number broadcast fits)) (rw (number_back broadcast fits) refl)
 
 open_words : (hold file want fd : List ℕ)
     → 32 ∷ (codes "open h" ++ hold ++ codes " " ++ file ++ codes " " ++ want ++ codes " f" ++ fd)

@@ -61,7 +61,8 @@ no_broadcast_back k broadcast fits =
 
 pub busy_back : (k : Tells) (broadcast : ℕ) → FitsAnswer (answer.Busy broadcast) → AnswerBack k (answer.Busy broadcast)
 unfolding spec.read_answer spec.read_refusal spec.two_words
-busy_back k broadcast fits = with_word (codes "busy") (decimal broadcast) refl (decimal_plain broadcast (long_number broadcast fits)) (rw (number_back broadcast fits) refl)
+busy_back k broadcast fits =
+    with_word (codes "busy") (decimal broadcast) refl (decimal_plain broadcast (long_number broadcast fits)) (rw (number_back broadcast fits) refl)
 
 pub exists_task_back : (k : Tells) (number : ℕ) → FitsAnswer (answer.Exists named.Task number) → AnswerBack k (answer.Exists named.Task number)
 unfolding spec.read_answer spec.read_refusal spec.two_words spec.exists_of

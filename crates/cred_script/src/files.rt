@@ -32,11 +32,11 @@ impl Model for ScriptFile {
 /// The files that are declared, in the order of their lines. No two have one name, and there are at
 /// most 256.
 #[derive(Drop)]
-pub struct Files {
+pub struct DeclaredFiles {
     by_name: IndexMap<String, FileInfo>,
 }
 
-impl Model for Files {
+impl Model for DeclaredFiles {
     ghost use Rattle.std.specs.Prelude.{List};
     ghost use Rattle.cred_model.specs.Script.{NamedFile};
     ghost use Rattle.cred_script.specs.Kept.{AreFew, files_of};
@@ -48,12 +48,12 @@ impl Model for Files {
     ghost invariant = { λ f. AreFew f.by_name.entries };
 }
 
-impl Files {
+impl DeclaredFiles {
     /// No file.
-    pub fn new(alloc: Global) -> Files
+    pub fn new(alloc: Global) -> DeclaredFiles
         ensures { result ≡ [] }
     {
-        Files {
+        DeclaredFiles {
             by_name: IndexMap::new(alloc),
         }
     }

@@ -12,5 +12,5 @@ mod files;
 mod script;
 
 pub use actor::event_actor;
-pub use files::{Files, ScriptFile};
+pub use files::{DeclaredFiles, ScriptFile};
 pub use script::{Script, ScriptLine};

@@ -11,7 +11,7 @@ ghost use Rattle.cred_script.specs.Lanes.{lanes};
 ghost use Rattle.cred_script.specs.Lines.{line_at, line_seen};
 ghost use Rattle.cred_script.specs.Sound.{AreApart, IsSoundLine, IsSoundScript};
 
-use crate::files::Files;
+use crate::files::DeclaredFiles;
 use cred_event::Content;
 use cred_ids::Id;
 use cred_names::Namespaces;
@@ -38,7 +38,7 @@ impl Model for ScriptLine {
 /// A script. Its lines are numbered from 1; there are at most 20,000, and at most 256 files.
 #[derive(Drop)]
 pub struct Script {
-    files: Files,
+    files: DeclaredFiles,
     namespaces: Namespaces,
     lines: Vec<ScriptLine>,
 }
@@ -61,7 +61,7 @@ impl Model for Script {
 
 impl Script {
     /// The script of these files, namespaces and lines.
-    pub fn new(files: Files, namespaces: Namespaces, lines: Vec<ScriptLine>) -> Script
+    pub fn new(files: DeclaredFiles, namespaces: Namespaces, lines: Vec<ScriptLine>) -> Script
         requires { IsSoundScript (length files) namespaces lines.items }
         ensures value { result
             ≡ record { files = files; namespaces = namespaces; lines = lines.items } }
@@ -76,7 +76,7 @@ impl Script {
     }
 
     /// The files that it declares, in the order of the lines that declare them.
-    pub fn files(&self) -> &Files
+    pub fn files(&self) -> &DeclaredFiles
         ensures { result.now ≡ self.now.files }
     {
         &self.files

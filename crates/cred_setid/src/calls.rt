@@ -8,7 +8,7 @@ ghost use Rattle.cred_setid.specs.Parts.{parts_of, alike, PartsBecome};
 
 use crate::fix::set_user_ids;
 use crate::ids::{after_seteuid, after_setresuid, after_setreuid, after_setuid};
-use crate::parts::{Parts, parts_of};
+use crate::parts::{IdParts, parts_of};
 use cred_caps::Cap;
 use cred_ids::{Groups, GroupsRefusal, Id, Ids4};
 use cred_record::{Cred, Denial, IdCall, Refusal};
@@ -50,7 +50,11 @@ pub fn apply_to(alloc: Global, cred: &mut Cred, call: &IdCall) -> Result<(), Ref
 ///
 /// As `apply_to`. The parts then stay as they were.
 #[inline(always)]
-pub fn apply_parts(alloc: Global, own: &mut Parts, call: &IdCall) -> Result<Option<Groups>, Refusal>
+pub fn apply_parts(
+    alloc: Global,
+    own: &mut IdParts,
+    call: &IdCall,
+) -> Result<Option<Groups>, Refusal>
     ensures made { (c : Credential) → parts_of c ≡ own.old →
         PartsBecome c own.old own.new result (set_id c call.now) }
     ensures valid { (c : Credential) → parts_of c ≡ own.old →
@@ -62,7 +66,7 @@ pub fn apply_parts(alloc: Global, own: &mut Parts, call: &IdCall) -> Result<Opti
 
 /// The same, said of whatever credential has these parts.
 #[inline(always)]
-fn decide(alloc: Global, own: &mut Parts, call: &IdCall) -> Result<Option<Groups>, Refusal>
+fn decide(alloc: Global, own: &mut IdParts, call: &IdCall) -> Result<Option<Groups>, Refusal>
     ensures made { (c : Credential) →
         PartsBecome (alike c own.old) own.old own.new result (set_id (alike c own.old) call.now) }
     ensures valid { (inh : Caps) → AreValidSets own.old.perm inh own.old.eff own.old.amb →
@@ -86,7 +90,7 @@ fn decide(alloc: Global, own: &mut Parts, call: &IdCall) -> Result<Option<Groups
 
 /// Gives the parts these user ids, and the sets as they follow, or says why there are none.
 #[inline(always)]
-fn set_users(own: &mut Parts, ids: Result<Ids4, Denial>) -> Result<Option<Groups>, Refusal>
+fn set_users(own: &mut IdParts, ids: Result<Ids4, Denial>) -> Result<Option<Groups>, Refusal>
     ensures made { (c : Credential) →
         PartsBecome (alike c own.old) own.old own.new result (for_users (alike c own.old) ids) }
     ensures valid { (inh : Caps) → AreValidSets own.old.perm inh own.old.eff own.old.amb →
@@ -98,7 +102,7 @@ fn set_users(own: &mut Parts, ids: Result<Ids4, Denial>) -> Result<Option<Groups
 
 /// Gives the parts these group ids, which leave the sets alone, or says why there are none.
 #[inline(always)]
-fn set_groups(own: &mut Parts, ids: Result<Ids4, Denial>) -> Result<Option<Groups>, Refusal>
+fn set_groups(own: &mut IdParts, ids: Result<Ids4, Denial>) -> Result<Option<Groups>, Refusal>
     ensures made { (c : Credential) →
         PartsBecome (alike c own.old) own.old own.new result (for_groups (alike c own.old) ids) }
     ensures valid { (inh : Caps) → AreValidSets own.old.perm inh own.old.eff own.old.amb →
@@ -110,7 +114,7 @@ fn set_groups(own: &mut Parts, ids: Result<Ids4, Denial>) -> Result<Option<Group
 
 /// The groups that setgroups(2) sets.
 #[tactic(auto, unfolding(cred_rules::specs::SetId::after_setgroups))]
-fn list_of(alloc: Global, own: &Parts, list: &[Id]) -> Result<Option<Groups>, Refusal>
+fn list_of(alloc: Global, own: &IdParts, list: &[Id]) -> Result<Option<Groups>, Refusal>
     ensures { (c : Credential) → PartsBecome (alike c own.now) own.now own.now result
         (after_setgroups (alike c own.now) list.now) }
 {

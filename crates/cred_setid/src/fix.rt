@@ -6,7 +6,7 @@ ghost use Rattle.cred_record.specs.Credential.{Credential, AreValidSets};
 ghost use Rattle.cred_rules.specs.Fix.{with_user_ids};
 ghost use Rattle.cred_setid.specs.Parts.{alike, with_parts};
 
-use crate::parts::Parts;
+use crate::parts::IdParts;
 use cred_caps::{CapSet, Flag};
 use cred_ids::{Id, Ids4};
 
@@ -30,7 +30,7 @@ struct Sets {
 /// The sets that a credential with these parts has with these user ids.
 #[inline(always)]
 #[tactic(auto, unfolding(cred_rules::specs::Fix::with_user_ids))]
-fn fixed(own: &Parts, ids: &Ids4) -> Sets
+fn fixed(own: &IdParts, ids: &Ids4) -> Sets
     ensures sets { (c : Credential) → with_user_ids (alike c own.now) ids.now
         ≡ record (alike c own.now) {
           uid = ids.now;
@@ -66,7 +66,7 @@ fn fixed(own: &Parts, ids: &Ids4) -> Sets
 
 /// Gives the parts these user ids, and the sets that they then have.
 #[inline(always)]
-pub fn set_user_ids(own: &mut Parts, ids: Ids4)
+pub fn set_user_ids(own: &mut IdParts, ids: Ids4)
     ensures ids { (c : Credential) → with_user_ids (alike c own.old) ids
         ≡ with_parts (alike c own.old) own.new }
     ensures valid { (inh : Caps) → AreValidSets own.old.perm inh own.old.eff own.old.amb →

@@ -11,4 +11,4 @@ pub mod parts;
 
 pub use calls::{apply_parts, apply_to};
 pub use fs::setfs;
-pub use parts::Parts;
+pub use parts::IdParts;

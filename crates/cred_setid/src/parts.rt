@@ -9,7 +9,7 @@ use cred_record::Cred;
 /// What the calls that set ids look at and change of a credential, but for its groups. They take no
 /// memory.
 #[derive(Clone, Copy)]
-pub struct Parts {
+pub struct IdParts {
     /// The user ids.
     pub uid: Ids4,
     /// The group ids.
@@ -28,10 +28,10 @@ pub struct Parts {
 
 /// The parts of a credential.
 #[inline(always)]
-pub(crate) fn parts_of(cred: &Cred) -> Parts
+pub(crate) fn parts_of(cred: &Cred) -> IdParts
     ensures { result ≡ parts_of cred.now }
 {
-    Parts {
+    IdParts {
         uid: cred.uid,
         gid: cred.gid,
         perm: cred.perm,

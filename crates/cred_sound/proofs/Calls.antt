@@ -60,7 +60,10 @@ begin_changes script s line task call =
     in_slots Q s table_full
     (λ s slot. (
       Began (length s.creds) slot (length others),
-      record (replaced s task old.number new slot) { broadcasts = with_broadcast s.broadcasts (by task); dumpable = renewed s.dumpable owner.process (differs old.cred new) },
+      record (replaced s task old.number new slot) {
+        broadcasts = with_broadcast s.broadcasts (by task);
+        dumpable = renewed s.dumpable owner.process (differs old.cred new);
+      },
     ))
     (still script s event TableFull)
     (λ left slot fewer free.
@@ -79,7 +82,8 @@ process_ends : (script : Script) (s : State) (number task : ℕ) (cause : AbortC
 process_ends script s number task cause broadcast left fewer =
     let ends = is_thread_of broadcast.process in
     let after = ended ends (with_left s left) in
-    only_tasks script s (Act number) (Aborted task cause) left after.tasks (dropped broadcast.process s.broadcasts) (without_flag s.dumpable broadcast.process) after.deferred
+    only_tasks script s (Act number) (Aborted task cause) left after.tasks (dropped broadcast.process s.broadcasts)
+    (without_flag s.dumpable broadcast.process) after.deferred
     fewer
     (Fewer ends refl refl (ByAbort number task cause broadcast refl refl refl refl refl)) (ended_stay (with_left s left) ends)
 
@@ -97,8 +101,7 @@ follow_changes script s number task broadcast owner old (Ok new) opened first fo
       Acted task (length now.creds) slot left_waiting,
       record (replaced now task old.number new slot) {
         broadcasts = waits_no_more task now.broadcasts;
-        dumpable = renewed now.dumpable owner.process
-            (differs old.cred new);
+        dumpable = renewed now.dumpable owner.process (differs old.cred new);
       },
     ))
     (process_ends script s number task cause.Full broadcast)

@@ -60,7 +60,8 @@ renewed_flags s event task owner ends made c (ByAct number slot broadcast before
 renewed_flags s event task owner ends made c (ByRaw call before slot is has ruled idle none broadcasts answer flags) found are =
     let now = with_current (survivors ends s.tasks) task (length s.creds) in
     subst (AreFlagged now) (sym flags) (flags_renewed now s.dumpable owner.process _ (none_ends ends s.tasks s.dumpable task (length s.creds) none are))
-renewed_flags s event task owner ends made c (ByCommit label place slot count p last is first at own changed same cred ending broadcasts answer flags) found are =
+renewed_flags s event task owner ends made c
+    (ByCommit label place slot count p last is first at own changed same cred ending broadcasts answer flags) found are =
     let now = with_current (survivors ends s.tasks) task (length s.creds) in
     subst (AreFlagged now) (sym flags)
     (flags_done last.change last.gains now s.dumpable owner.process (differs_by s owner last)
@@ -91,7 +92,8 @@ fewer_flags s event ends made (ByAbort number task cause broadcast is ending bro
 begun_flags : (s : State) (t : Task) → AreFlagged s.tasks s.dumpable
     → AreFlagged (s.tasks ++ t ∷ []) (cond (lives s.tasks t.process) s.dumpable (with_process_flag s.dumpable t.process true))
 begun_flags s t are =
-    elim (lives s.tasks t.process) as (λ b. lives s.tasks t.process ≡ b → AreFlagged (s.tasks ++ t ∷ []) (cond b s.dumpable (with_process_flag s.dumpable t.process true))) [
+    elim (lives s.tasks t.process) as
+    (λ b. lives s.tasks t.process ≡ b → AreFlagged (s.tasks ++ t ∷ []) (cond b s.dumpable (with_process_flag s.dumpable t.process true))) [
       | true ↦ λ live. flags_joined s.tasks s.dumpable t live are
       | false ↦ λ none. flags_more s.tasks s.dumpable t true none are
     ] refl

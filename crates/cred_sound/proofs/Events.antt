@@ -25,8 +25,8 @@ use Rattle.cred_event.specs.declared.answer.Answer.{Answer}
 use Rattle.cred_event.specs.declared.answer.Answer.TheVariants.{Done, Sealed, Kept, Told, Einval, Stale, TableFull}
 use Rattle.cred_event.specs.declared.answer.Told.TheVariants as told
 use Rattle.cred_model.specs.Script.{Script, chain_of, root_of, reaches}
-use Rattle.cred_model.specs.State.{State, Task, OpenFile as Open, Hold, Prepared, Changed, Numbered, numbered, task_of, broadcast_in, begun_by, open_of, hold_of}
-use Rattle.cred_model.specs.State.{prepared_of, held_by, opener_of, credential_of, info_of}
+use Rattle.cred_model.specs.State.{State, Task, OpenFile as Open, Hold, Prepared, Changed, Numbered, numbered, task_of, broadcast_in, begun_by, open_of}
+use Rattle.cred_model.specs.State.{hold_of, prepared_of, held_by, opener_of, credential_of, info_of}
 use Rattle.cred_model.specs.Slots.{refs}
 use Rattle.cred_model.specs.Named.{change_files}
 use Rattle.cred_model.specs.FileChanges.{changed_file, changed_by}
@@ -35,8 +35,7 @@ use Rattle.cred_model.specs.Change.{by_change}
 use Rattle.cred_model.specs.Ends.{ended}
 use Rattle.cred_model.specs.Ptrace.{may_trace}
 use Rattle.cred_model.specs.Dumpable.{is_dumpable, set_flag, flags_begun, flags_committed, flag_of_value}
-use Rattle.cred_model.specs.Moves.{table_full, with_overrides, with_override, overridden, with_change}
-use Rattle.cred_model.specs.Moves.{first_task, created, preparing, committed, given_up}
+use Rattle.cred_model.specs.Moves.{table_full, with_overrides, with_override, overridden, with_change, first_task, created, preparing, committed, given_up}
 use Rattle.cred_model.specs.Step.{ends_with, broadcasts_after, commit_answer, try_commit, take_hold, is_access, for_task, for_access, override_held}
 use Rattle.cred_model.specs.Step.{override_prepared, by_file, outcome, step}
 use Rattle.cred_model.proofs.Lists.{All-at}
@@ -193,7 +192,8 @@ gives_up_prepared script s event answer label place p ends at is =
     with_prepared script s event answer s.deferred (remove s.prepared place) (s.deferred ++ p.base ∷ []) (All-contains_itself s.deferred)
     (Ends label place p ends refl at is) (gives_up s p.base (base_stands s place p is))
 
-only_broadcasts : (change : Change) (owner : Task) (t : State) → broadcasts_after change owner t ≡ record t { broadcasts = broadcasts_left change owner t.broadcasts }
+only_broadcasts : (change : Change) (owner : Task) (t : State)
+    → broadcasts_after change owner t ≡ record t { broadcasts = broadcasts_left change owner t.broadcasts }
 only_broadcasts (Exec file) owner t = refl
 only_broadcasts change owner t = refl
 
@@ -233,7 +233,11 @@ try_commit_changes : (script : Script) (s : State) (label place : ℕ) (p : Prep
     → Changes script s (Commit label) (try_commit s place p owner last)
 try_commit_changes script s label place p last owner at is changed found =
     let ends = ends_with last.change owner in
-    elim (owner.current == p.base) as (λ b. (b ≡ true → owner.current ≡ p.base) → Changes script s (Commit label) (cond {A = Answer × State} b (commit_answer last (length s.creds) p.slot (count_by ends s.tasks), record (broadcasts_after last.change owner (committed (ended ends s) place p owner.current last.cred)) { dumpable = flags_committed s owner last }) (Stale p.base owner.current, given_up s place p))) [
+    elim (owner.current == p.base) as
+    (λ b. (b ≡ true → owner.current ≡ p.base) → Changes script s (Commit label) (cond {A = Answer × State} b (
+      commit_answer last (length s.creds) p.slot (count_by ends s.tasks),
+      record (broadcasts_after last.change owner (committed (ended ends s) place p owner.current last.cred)) { dumpable = flags_committed s owner last },
+    ) (Stale p.base owner.current, given_up s place p))) [
       | true ↦ λ same. commit_fresh script s label place p last owner at is changed found (same refl)
       | false ↦ λ same. gives_up_prepared script s (Commit label) (Stale p.base owner.current) label place p (inl refl) at is
     ] (eqb-true owner.current p.base)

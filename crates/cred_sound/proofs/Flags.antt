@@ -67,7 +67,8 @@ some-kept test p [] keeps = refl
 some-kept test p (x ∷ xs) keeps =
     let keeps_first = All-head (λ x. test x ≡ true → p x ≡ true) x xs keeps in
     let rest = some-kept test p xs (All-tail (λ x. test x ≡ true → p x ≡ true) x xs keeps) in
-    elim (p x) as (λ b. (test x ≡ true → b ≡ true) → is_some (find test (cond b (x ∷ filter p xs) (filter p xs))) ≡ is_some (cond (test x) (Some x) (find test xs))) [
+    elim (p x) as
+    (λ b. (test x ≡ true → b ≡ true) → is_some (find test (cond b (x ∷ filter p xs) (filter p xs))) ≡ is_some (cond (test x) (Some x) (find test xs))) [
       | true ↦ λ keep.
           elim (test x) as (λ a. is_some (cond a (Some x) (find test (filter p xs))) ≡ is_some (cond a (Some x) (find test xs))) [
             | true ↦ refl
@@ -292,7 +293,8 @@ flags_exited tasks flags owner task differ is are =
     let number = found_number tasks task owner is in
     let beside = lives_beside tasks owner task number in
     let live = owner_lives tasks owner task is in
-    elim (is_some (find (is_beside owner) tasks)) as (λ b. is_some (find (is_beside owner) tasks) ≡ b → AreFlagged (survivors (is_task task) tasks) (cond b flags (without_flag flags owner.process))) [
+    elim (is_some (find (is_beside owner) tasks)) as
+    (λ b. is_some (find (is_beside owner) tasks) ≡ b → AreFlagged (survivors (is_task task) tasks) (cond b flags (without_flag flags owner.process))) [
       | true ↦ λ some. record {
         apart = are.apart;
         own = λ p.
@@ -307,7 +309,8 @@ flags_exited tasks flags owner task differ is are =
         apart = AllPairs-filter (Differ process_of) (λ f. not (f.process == owner.process)) flags are.apart;
         own = λ p.
             flags_no_more flags owner.process p
-            ∙ elim (owner.process == p) as (λ b. (owner.process == p) ≡ b → (not (p == owner.process) && is_some (flag_in flags p)) ≡ lives (survivors (is_task task) tasks) p) [
+            ∙ elim (owner.process == p) as
+            (λ b. (owner.process == p) ≡ b → (not (p == owner.process) && is_some (flag_in flags p)) ≡ lives (survivors (is_task task) tasks) p) [
               | true ↦ λ same.
                   let own : (p == owner.process) ≡ true = let is_own : owner.process ≡ p = eqb-true owner.process p same in grind (arith, nat_tests) in
                   ap (λ b. not b && is_some (flag_in flags p)) own

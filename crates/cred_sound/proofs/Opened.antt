@@ -89,7 +89,8 @@ renewed_open s event task owner ends made c (ByAct number slot broadcast before 
 renewed_open s event task owner ends made c (ByRaw call before slot is has ruled idle none broadcasts answer flags) found sound =
     let now = with_current (survivors ends s.tasks) task (length s.creds) in
     subst (AreOpen now) (sym broadcasts) (open_with s.tasks now s.broadcasts (all_stay ends s.tasks task (length s.creds) none) (sound_open s sound))
-renewed_open s event task owner ends made c (ByCommit label place slot count p last is first at own changed same cred ending broadcasts answer flags) found sound =
+renewed_open s event task owner ends made c
+    (ByCommit label place slot count p last is first at own changed same cred ending broadcasts answer flags) found sound =
     let now = with_current (survivors ends s.tasks) task (length s.creds) in
     subst (AreOpen now) (sym broadcasts) (commit_open s owner ends task (length s.creds) last.change ending (sound_open s sound))
 

@@ -16,8 +16,8 @@ use Rattle.cred_event.specs.declared.answer.Answer.{Answer}
 use Rattle.cred_event.specs.declared.answer.Answer.TheVariants.{Done, Sealed, Began, Acted, Aborted}
 use Rattle.cred_event.specs.declared.answer.AbortCause.{AbortCause}
 use Rattle.cred_model.specs.Script.{Script, chain_of, root_of}
-use Rattle.cred_model.specs.State.{State, SealedCred, Task, Broadcast, OpenFile, Hold, Prepared, Changed, Numbered, numbered, task_of, broadcast_of, broadcast_in}
-use Rattle.cred_model.specs.State.{begun_by, hold_of, prepared_of, current_of, info_of}
+use Rattle.cred_model.specs.State.{State, SealedCred, Task, Broadcast, OpenFile, Hold, Prepared, Changed, Numbered, numbered, task_of, broadcast_of}
+use Rattle.cred_model.specs.State.{broadcast_in, begun_by, hold_of, prepared_of, current_of, info_of}
 use Rattle.cred_model.specs.Slots.{refs, kept}
 use Rattle.cred_model.specs.Named.{change_files}
 use Rattle.cred_model.specs.FileChanges.{changed_file, changed_by}

@@ -41,7 +41,7 @@ use Rattle.cred_tables.proofs.InUse.{Differ}
 use Rattle.cred_model.proofs.Places.{if_some}
 use Rattle.cred_tables.proofs.Sealing.{Drops, roomy, in_free_or, in_none_or}
 use Rattle.cred_setid.specs.Parts.{PartsBecome}
-use Rattle.cred_setid.specs.declared.parts.Parts.{Parts as IdParts}
+use Rattle.cred_setid.specs.declared.parts.IdParts.{IdParts}
 
 -- ---- what was found
 
@@ -74,7 +74,8 @@ pub record IsNext (s : State) (number task : ℕ) : Type 0 where
 pub next-lives : {s : State} {number task : ℕ} → IsNext s number task → IsSome (task_of s task)
 next-lives next = ap is_some next.lives
 
-pub next_is : (s : State) (number task : ℕ) → IsSound s → Some task ≡ option_and_then (λ b. slice_get b.waiting 0) (broadcast_of s number) → IsNext s number task
+pub next_is : (s : State) (number task : ℕ) → IsSound s → Some task ≡ option_and_then (λ b. slice_get b.waiting 0) (broadcast_of s number)
+    → IsNext s number task
 next_is s number task sound is = by (broadcast_of s number) refl is
   where
     by : (opened : Option Broadcast) → broadcast_of s number ≡ opened → Some task ≡ option_and_then (λ (b : Broadcast). slice_get b.waiting 0) opened
@@ -157,7 +158,8 @@ module _ (s : State) (number task : ℕ) (next : IsNext s number task) where
   act_without none = does_same _ _ _ (rw (next.found, next.least, next.lives, own_of None none) refl)
 
   module _ (old : Numbered) (has : current_of s task ≡ Some old) where
-    pub act_refused : (denial : Denial) → set_id old.cred next.broadcast.call ≡ Err denial → outcome s (by_act s number) ≡ (Aborted task Perm, aborted next.broadcast s)
+    pub act_refused : (denial : Denial) → set_id old.cred next.broadcast.call ≡ Err denial
+        → outcome s (by_act s number) ≡ (Aborted task Perm, aborted next.broadcast s)
     act_refused denial rule = rw (next.found, next.least, next.lives, own_of (Some old) has, rule) refl
 
     act_tests : (new : Credential) → set_id old.cred next.broadcast.call ≡ Ok new
@@ -208,7 +210,8 @@ gives_ok before after event (Err why) gives = tt
 pub aborts_so : {E : Type 0} (s left : State) (number task : ℕ) (cause : AbortCause) (after : State) (next : IsNext s number task) (made : Result Answer E)
     → left ≡ s
     → IfOk made (λ answer. answer ≡ Aborted task cause)
-    → OnOk made (IfSome (task_of left task) (λ owner. (broadcast : Broadcast) → broadcast.process ≡ owner.process → after ≡ aborted broadcast (at_abort cause left)))
+    → OnOk made (IfSome (task_of left task)
+    (λ owner. (broadcast : Broadcast) → broadcast.process ≡ owner.process → after ≡ aborted broadcast (at_abort cause left)))
     → outcome s (by_act s number) ≡ (Aborted task cause, aborted next.broadcast (at_abort cause s))
     → IfOk made (λ answer. IsOutcomeLike (outcome s (by_act s number)) answer after)
 aborts_so s left number task cause after next (Ok answer) same is ends gives =
@@ -244,7 +247,8 @@ module _ {parts : Parts} {store : List (Option Credential)} {t : Table} (is : Is
       kept_beside (ended_kept (abort_keeps cause is) (is_thread_of process) after all)
       (dropped process parts.broadcasts) (without_flag parts.dumpable process)
 
-  pub process_ended : (broadcast : Broadcast) → broadcast.process ≡ process → state_of left store after ≡ aborted broadcast (at_abort cause (state_of parts store t))
+  pub process_ended : (broadcast : Broadcast) → broadcast.process ≡ process
+      → state_of left store after ≡ aborted broadcast (at_abort cause (state_of parts store t))
   process_ended broadcast of =
       let ends : ℕ → State → State = λ p r. aborted (record broadcast { process = p }) r in
       sym (ap (λ (r : State). aborted broadcast r) (abort_table cause parts store t)
@@ -254,8 +258,9 @@ module _ {parts : Parts} {store : List (Option Credential)} {t : Table} (is : Is
 
 -- ---- a step
 
-module _ {parts : Parts} {store : List (Option Credential)} {t : Table} (is : IsKept parts store t) (number task : ℕ) (next : IsNext (state_of parts store t) number task)
-    (old : Numbered) (current : current_of (state_of parts store t) task ≡ Some old) (new : Credential) (rule : set_id old.cred next.broadcast.call ≡ Ok new) where
+module _ {parts : Parts} {store : List (Option Credential)} {t : Table} (is : IsKept parts store t) (number task : ℕ)
+    (next : IsNext (state_of parts store t) number task) (old : Numbered) (current : current_of (state_of parts store t) task ≡ Some old) (new : Credential)
+    (rule : set_id old.cred next.broadcast.call ≡ Ok new) where
   abbrev s : State
   s = state_of parts store t
 

@@ -15,13 +15,13 @@ use Rattle.cred_sound.specs.Sound.{IsSound}
 use Rattle.cred_tables.specs.Kept.{Standing, creds_in}
 use Rattle.cred_tables.specs.Out.{AreHome, AreOut, ArePut, hold_token, tokens_in}
 use Rattle.cred_tables.proofs.Outs.{hold_token_is, kept_tokens_are}
-use Rattle.cred_state.specs.TokensOut.{IsKeptBy, IsStanding, entries_of}
+use Rattle.cred_state.specs.TokensOut.{IsKeptBy, IsStanding, loans_of}
 
 -- The tokens were lent of this state, under labels that nothing else was lent under.
 pub record WereLent (before : Standing) (lent : Lent) : Type 0 where
   pub cells : TableId
   pub of : AreOf cells lent
-  pub tokens : entries_of lent ≡ tokens_in before.state (work_event lent)
+  pub tokens : loans_of lent ≡ tokens_in before.state (work_event lent)
   pub sound : IsSound before.state
   pub out : AreOut before.state before.words.out
   pub home : AreHome (work_event lent) before.words.out
@@ -30,12 +30,12 @@ pub record WereLent (before : Standing) (lent : Lent) : Type 0 where
   pub creds : before.state.creds ≡ creds_in before.places slots
 
 pub were_of : (before : Standing) (cells : TableId) (lent : Lent) (event : Event) → work_event lent ≡ event → AreOf cells lent
-    → entries_of lent ≡ tokens_in before.state event → IsSound before.state → AreOut before.state before.words.out → AreHome event before.words.out
+    → loans_of lent ≡ tokens_in before.state event → IsSound before.state → AreOut before.state before.words.out → AreHome event before.words.out
     → IsStanding before → WereLent before lent
 were_of before cells lent event named of tokens sound out home standing = record {
   cells = cells;
   of = of;
-  tokens = subst (λ (e : Event). entries_of lent ≡ tokens_in before.state e) (sym named) tokens;
+  tokens = subst (λ (e : Event). loans_of lent ≡ tokens_in before.state e) (sym named) tokens;
   sound = sound;
   out = out;
   home = subst (λ (e : Event). AreHome e before.words.out) (sym named) home;

@@ -28,7 +28,8 @@ pub kept_broadcasts : {parts : Parts} {store : List (Option Credential)} {t : Ta
 kept_broadcasts is broadcasts = record { counted = is.counted; filled = is.filled }
 
 -- States that are alike stay so where both have these broadcasts.
-pub like_broadcasts : {a b : State} → IsLike a b → (broadcasts : List Broadcast) → IsLike (record a { broadcasts = broadcasts }) (record b { broadcasts = broadcasts })
+pub like_broadcasts : {a b : State} → IsLike a b → (broadcasts : List Broadcast)
+    → IsLike (record a { broadcasts = broadcasts }) (record b { broadcasts = broadcasts })
 like_broadcasts like broadcasts = record {
   tasks = like.tasks;
   broadcasts = refl;

@@ -133,7 +133,8 @@ module _ (s : State) (label : ℕ) (p : Prepared) (last : Changed) (found : prep
       ∙ ap (λ (r : State). (Stale p.base now, r)) left)
 
 -- an execve drops its process's broadcast
-broadcasts_are_left : (change : Change) (owner : Task) (s : State) → broadcasts_after change owner s ≡ record s { broadcasts = broadcasts_left change owner.process s.broadcasts }
+broadcasts_are_left : (change : Change) (owner : Task) (s : State)
+    → broadcasts_after change owner s ≡ record s { broadcasts = broadcasts_left change owner.process s.broadcasts }
 broadcasts_are_left (Exec file) owner s = refl
 broadcasts_are_left change owner s = refl
 
@@ -204,7 +205,8 @@ module _ {parts : Parts} {after : List Task} {store : List (Option Credential)} 
     pub slot-kept_still : is_kept_in mid p.slot ≡ true
     slot-kept_still = ap (λ ks. slice_index_or ks p.slot false) drops.kept ∙ slot-kept on_is place p there
 
-    module _ (last_table : Table) {number : ℕ} (last : Changed) (words : slice_get store p.slot ≡ Some (Some last.cred)) (seals : SealsKept mid last_table number p.base p.slot)
+    module _ (last_table : Table) {number : ℕ} (last : Changed) (words : slice_get store p.slot ≡ Some (Some last.cred))
+        (seals : SealsKept mid last_table number p.base p.slot)
         (distinct : Differ parts.tasks) (own : AllPairs (λ a b. a ≢ b) (kept before)) where
       abbrev updated : List Task
       updated = with_current after p.task number

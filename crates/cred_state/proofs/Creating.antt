@@ -79,7 +79,8 @@ module _ (parts : Parts) (store : List (Option Credential)) (t : Table) {r later
       let is : tasks ≡ with_new now.number
       = grown ∙ ap (λ (o : Option Task). option_map_or (λ (u : Task). parts.tasks ++ first_task child u.process u.current ∷ []) o parts.tasks) may.lives
       ∙ ap with_new number in
-      let does : outcome s (by_spawn s task child) ≡ (Sealed now.number now.slot, record s { tasks = with_new now.number; broadcasts = joined task child parts.broadcasts })
+      let does : outcome s (by_spawn s task child)
+      ≡ (Sealed now.number now.slot, record s { tasks = with_new now.number; broadcasts = joined task child parts.broadcasts })
       = rw (may.lives, there, may.idle, may.new, may.own, few_tasks (length parts.tasks) may.few) refl in
       does
       ∙ (λ i. (Sealed now.number now.slot, state_of (record parts { tasks = sym is i; broadcasts = sym joins i }) store t))

@@ -33,7 +33,7 @@ use Rattle.cred_tables.proofs.Back.{back_new, has_taken, set_again}
 use Rattle.cred_tables.proofs.Outs.{IsToken, has_first, has_last, has_out, held_token, kept_alone, kept_token, out_like}
 use Rattle.cred_tables.proofs.Puts.{was_put}
 use Rattle.cred_tables.proofs.Stored.{slots-creds_in}
-use Rattle.cred_state.specs.TokensOut.{AreTaken, IsChainOf, IsKeptBy, IsNs, earlier_of, entries_of, hold_loan, with_hold, with_kept, with_lent}
+use Rattle.cred_state.specs.TokensOut.{AreTaken, IsChainOf, IsKeptBy, IsNs, earlier_of, loans_of, hold_loan, with_hold, with_kept, with_lent}
 use Rattle.cred_state.proofs.Asking.{WereLent}
 use Rattle.cred_state.proofs.Keeping.{home_is}
 use Rattle.cred_state.proofs.TokensOut.{like_lent}
@@ -67,13 +67,13 @@ tokens_out s event = All-nil (λ e. IsToken s e)
 
 -- ---- while tokens are lent
 
-pub lent_words : (before : Standing) (lent : Lent) → (with_lent before lent).words ≡ record before.words { out = entries_of lent ++ before.words.out }
+pub lent_words : (before : Standing) (lent : Lent) → (with_lent before lent).words ≡ record before.words { out = loans_of lent ++ before.words.out }
 lent_words before (Asking hold query told) = refl
 lent_words before (Opening hold file want fd may) = refl
 lent_words before (Signalling from hold to target may) = refl
 lent_words before (Altering base writer change made) = refl
 
-pub lent_out : (before : Standing) (lent : Lent) → (with_lent before lent).words.out ≡ entries_of lent ++ before.words.out
+pub lent_out : (before : Standing) (lent : Lent) → (with_lent before lent).words.out ≡ loans_of lent ++ before.words.out
 lent_out before lent = ap (λ w. w.out) (lent_words before lent)
 
 module _ {before : Standing} {lent : Lent} (were : WereLent before lent) where
@@ -88,16 +88,16 @@ module _ {before : Standing} {lent : Lent} (were : WereLent before lent) where
 
   pub lent_are : AreOut now.state now.words.out
   lent_are =
-      let own : AreOut before.state (entries_of lent) = subst (λ es. AreOut before.state es) (sym were.tokens) (tokens_out before.state (work_event lent)) in
+      let own : AreOut before.state (loans_of lent) = subst (λ es. AreOut before.state es) (sym were.tokens) (tokens_out before.state (work_event lent)) in
       out_like now.state before.state lent_like now.words.out
       (subst (λ es. AreOut before.state es) (sym (lent_out before lent))
-      (All-append (λ e. IsToken before.state e) (entries_of lent) before.words.out own were.out))
+      (All-append (λ e. IsToken before.state e) (loans_of lent) before.words.out own were.out))
 
   -- all comes back
-  pub lent_back : (new : List Loan) → AreTaken (entries_of lent) now.words.out new → new ≡ before.words.out
+  pub lent_back : (new : List Loan) → AreTaken (loans_of lent) now.words.out new → new ≡ before.words.out
   lent_back new taken =
       all_back were.cells lent before.words.out new were.of were.home
-      (subst (λ es. AreTaken (entries_of lent) es new) (lent_out before lent) taken)
+      (subst (λ es. AreTaken (loans_of lent) es new) (lent_out before lent) taken)
 
 -- ---- a writer that was used
 
@@ -189,8 +189,8 @@ module _ (before old mid new : Standing) where
       → IsTaken mid.words.out (hold_loan hold) new.words.out → new ≡ before
   back_two from to hold target may were is state places id taken state' places' id' taken' =
       let lent : Lent = Signalling from hold to target may in
-      let on : AreTaken (entries_of lent) (with_lent before lent).words.out new.words.out
-      = subst (λ (x : Standing). AreTaken (entries_of lent) x.words.out new.words.out) is (mid.words.out, taken, (new.words.out, taken', refl)) in
+      let on : AreTaken (loans_of lent) (with_lent before lent).words.out new.words.out
+      = subst (λ (x : Standing). AreTaken (loans_of lent) x.words.out new.words.out) is (mid.words.out, taken, (new.words.out, taken', refl)) in
       standing_is (state' ∙ state ∙ ap (λ (x : Standing). x.state) is) (id' ∙ id ∙ ap (λ (x : Standing). x.words.id) is) (lent_back were new.words.out on)
       (places' ∙ places ∙ ap (λ (x : Standing). x.places) is)
 
@@ -205,8 +205,8 @@ module _ (before old mid new : Standing) where
   back_kept base writer ch done for were is are state places id taken state' places' id' taken' =
       let label = base.label in
       let lent = with_kept before base writer in
-      let on : AreTaken (entries_of (Altering base writer ch done)) lent.words.out new.words.out
-      = subst (λ (x : Standing). AreTaken (entries_of (Altering base writer ch done)) x.words.out new.words.out) is
+      let on : AreTaken (loans_of (Altering base writer ch done)) lent.words.out new.words.out
+      = subst (λ (x : Standing). AreTaken (loans_of (Altering base writer ch done)) x.words.out new.words.out) is
       (mid.words.out, taken, (new.words.out, taken', refl)) in
       let has : Has lent.words.out (loan label writer.slot None)
       = subst (λ (x : Standing). Has x.words.out (loan label writer.slot None)) is

@@ -58,7 +58,8 @@ init_tests s task process user group ns root idle new few = rw (idle, new, few_t
 -- ---- what refuses it
 
 module _ (s : State) (task process user group ns root : ℕ) where
-  pub init_busy : (number : ℕ) → not_busy (broadcast_in s process) ≡ Err (Busy number) → outcome s (by_init s task process user group ns root) ≡ (Busy number, s)
+  pub init_busy : (number : ℕ) → not_busy (broadcast_in s process) ≡ Err (Busy number)
+      → outcome s (by_init s task process user group ns root) ≡ (Busy number, s)
   init_busy number busy = rw busy refl
 
   module _ (idle : not_busy (broadcast_in s process) ≡ Ok tt) where

@@ -209,7 +209,8 @@ module _ {parts : Parts} {store : List (Option Credential)} {t : Table} (is : Is
         keeps-remove t.kept (kept s) place p.slot own kept-there is.counted.keeps slot
         ∙ ap (λ ks. is_among ks slot) (sym (remove-map (λ (q : Prepared). q.slot) parts.prepared place))
 
-    module _ (after : Table) (held : IsSameBag t.held (p.base ∷ after.held)) (sealed : after.sealed ≡ t.sealed) (deferred : after.deferred ≡ t.deferred ++ p.base ∷ []) where
+    module _ (after : Table) (held : IsSameBag t.held (p.base ∷ after.held)) (sealed : after.sealed ≡ t.sealed)
+        (deferred : after.deferred ≡ t.deferred ++ p.base ∷ []) where
       abbrev left : Parts
       left = record parts { prepared = remove parts.prepared place }
 

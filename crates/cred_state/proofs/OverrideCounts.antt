@@ -23,7 +23,8 @@ module _ (s : State) (task : ℕ) (u : Task) (differ : Differ s.tasks) (found : 
       let before = count-in_use test s in
       let same : count_by test (currents (with_overrides s.tasks task numbers)) ≡ count_by test (currents s.tasks)
       = ap (λ (ns : List ℕ). count_by test ns) (map_same (λ (t : Task). t.current) (overriding task numbers) s.tasks (overriding_current task numbers)) in
-      let change : count_by test (overrides (with_overrides s.tasks task numbers)) + count_by test u.overrides ≡ count_by test (overrides s.tasks) + count_by test numbers
+      let change : count_by test (overrides (with_overrides s.tasks task numbers)) + count_by test u.overrides
+      ≡ count_by test (overrides s.tasks) + count_by test numbers
       = count-changed (λ (t : Task). t.number) (λ t. record t { overrides = numbers }) task (λ t. t.overrides) test s.tasks u differ found in
       omega (arith, after, before, same, change)
 

@@ -32,7 +32,7 @@ use Rattle.cred_tables.proofs.Back.{has_taken, taken_has, back_new, back_newer}
 use Rattle.cred_tables.proofs.Outs.{IsHeld, IsPrepared, base_out, hold_apart, hold_out, kept_alone_by, kept_spare, kept_none, out_has, token_is}
 use Rattle.cred_tables.proofs.Puts.{put_back, put_changed, put_held, was_put}
 use Rattle.cred_tables.proofs.Stored.{spare_like}
-use Rattle.cred_state.specs.TokensOut.{HoldsApart, AreTaken, IsBase, earlier_of, entries_of, hold_loan}
+use Rattle.cred_state.specs.TokensOut.{HoldsApart, AreTaken, IsBase, earlier_of, loans_of, hold_loan}
 use Rattle.cred_state.proofs.Labelling.{alter_kept}
 
 -- ---- lists
@@ -197,7 +197,7 @@ set_within xs ys n x is at =
 -- ---- all that was lent comes back
 
 -- the event names the labels of what is lent for it
-pub named_for : (cells : TableId) (lent : Lent) → AreOf cells lent → All (λ e. Contains (event_labels (work_event lent)) e.label) (entries_of lent)
+pub named_for : (cells : TableId) (lent : Lent) → AreOf cells lent → All (λ e. Contains (event_labels (work_event lent)) e.label) (loans_of lent)
 named_for cells (Asking hold query told) of =
     let P : Loan → Type 0 = λ e. Contains (hold.label ∷ []) e.label in
     All-cons P (hold_loan hold) [] (Contains-push [] hold.label) (All-nil P)
@@ -225,7 +225,7 @@ pair_back event y x out mid later new home own first second rest =
     rest ∙ back_new x out later (subst (λ es. IsTaken es x later) one second) (fresh event out x home (All-head Named x [] (All-tail Named y (x ∷ []) own)))
 
 pub all_back : (cells : TableId) (lent : Lent) (out new : List Loan) → AreOf cells lent → AreHome (work_event lent) out
-    → AreTaken (entries_of lent) (entries_of lent ++ out) new → new ≡ out
+    → AreTaken (loans_of lent) (loans_of lent ++ out) new → new ≡ out
 all_back cells lent out new of home taken = by lent (named_for cells lent of) home taken
   where
     one : (event : Event) (e : Loan) → AreHome event out → All (λ e. Contains (event_labels event) e.label) (e ∷ [])
@@ -238,8 +238,8 @@ all_back cells lent out new of home taken = by lent (named_for cells lent of) ho
         → AreTaken (y ∷ x ∷ []) (y ∷ x ∷ out) new → new ≡ out
     two event y x home own (mid, first, (later, second, rest)) = pair_back event y x out mid later new home own first second rest
 
-    by : (lent : Lent) → All (λ e. Contains (event_labels (work_event lent)) e.label) (entries_of lent) → AreHome (work_event lent) out
-        → AreTaken (entries_of lent) (entries_of lent ++ out) new → new ≡ out
+    by : (lent : Lent) → All (λ e. Contains (event_labels (work_event lent)) e.label) (loans_of lent) → AreHome (work_event lent) out
+        → AreTaken (loans_of lent) (loans_of lent ++ out) new → new ≡ out
     by (Asking hold query told) own home taken = one (work_event (Asking hold query told)) (hold_loan hold) home own taken
     by (Opening hold file want fd may) own home taken = one (work_event (Opening hold file want fd may)) (hold_loan hold) home own taken
     by (Signalling from hold to target may) own home taken =

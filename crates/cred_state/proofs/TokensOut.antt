@@ -14,7 +14,7 @@ use Rattle.cred_work.specs.declared.lent.Lent.TheVariants.{Asking, Opening, Sign
 use Rattle.cred_tables.specs.Kept.{Standing}
 use Rattle.cred_tables.specs.Out.{cleared, tokens_in}
 use Rattle.cred_tables.proofs.Outs.{cleared_like}
-use Rattle.cred_state.specs.TokensOut.{IsChain, entries_of, hold_loan, with_lent}
+use Rattle.cred_state.specs.TokensOut.{IsChain, loans_of, hold_loan, with_lent}
 use Rattle.cred_model.specs.Script.{Script}
 use Rattle.atomic_table.specs.Seated.{TableId}
 
@@ -61,7 +61,7 @@ kept_by s base writer is = by (prepared_of s base.label) refl is
     by (Some p) at is = sealed p at (numbered s.creds p.base) is
 
 -- while it is lent, the state is like the one before
-pub like_lent : (before : Standing) (lent : Lent) → IsSound before.state → entries_of lent ≡ tokens_in before.state (work_event lent)
+pub like_lent : (before : Standing) (lent : Lent) → IsSound before.state → loans_of lent ≡ tokens_in before.state (work_event lent)
     → IsLike (with_lent before lent).state before.state
 like_lent before (Asking hold query told) sound is = like_self before.state
 like_lent before (Opening hold file want fd may) sound is = like_self before.state
@@ -72,11 +72,11 @@ like_lent before (Altering base writer change made) sound is =
     (cleared_like before.state sound by.label by.preparation by.prepared)
 
 -- a decision leaves the loans
-pub entries_bare : (lent : Lent) → entries_of (undecided lent) ≡ entries_of lent
-entries_bare (Asking hold query told) = refl
-entries_bare (Opening hold file want fd may) = refl
-entries_bare (Signalling from hold to target may) = refl
-entries_bare (Altering base writer change made) = refl
+pub loans_bare : (lent : Lent) → loans_of (undecided lent) ≡ loans_of lent
+loans_bare (Asking hold query told) = refl
+loans_bare (Opening hold file want fd may) = refl
+loans_bare (Signalling from hold to target may) = refl
+loans_bare (Altering base writer change made) = refl
 
 -- and the event
 pub event_bare : (lent : Lent) → work_event (undecided lent) ≡ work_event lent
@@ -101,8 +101,8 @@ chain_bare script chain (Altering base writer change made) = refl
 
 -- two that are the same but for the decision
 module _ (old new : Lent) (stays : undecided new ≡ undecided old) where
-  pub entries_stay : entries_of new ≡ entries_of old
-  entries_stay = sym (entries_bare new) ∙ ap entries_of stays ∙ entries_bare old
+  pub loans_stay : loans_of new ≡ loans_of old
+  loans_stay = sym (loans_bare new) ∙ ap loans_of stays ∙ loans_bare old
 
   pub event_stays : work_event new ≡ work_event old
   event_stays = sym (event_bare new) ∙ ap work_event stays ∙ event_bare old

@@ -15,7 +15,7 @@ use Rattle.cred_model.specs.Script.{Script, reaches}
 use Rattle.cred_model.specs.State.{State, Task, Changed, Numbered, ProcessFlag, current_of, held_by, numbered, task_of}
 use Rattle.cred_model.specs.Step.{by_dumpable, by_dumped, by_ptrace, outcome}
 use Rattle.cred_setid.specs.Parts.{changed, parts_of}
-use Rattle.cred_setid.specs.declared.parts.Parts.{Parts as IdParts}
+use Rattle.cred_setid.specs.declared.parts.IdParts.{IdParts}
 use Rattle.cred_state.specs.Flags.{differs_from}
 
 -- ---- the ids that a call changes

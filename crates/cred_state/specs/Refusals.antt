@@ -42,7 +42,8 @@ pub record MayCallAlone (s : State) (task : ℕ) (now : Numbered) : Type 0 where
   pub own : not_overridden owner ≡ Ok tt
 
 -- a task creates a thread of its process, or the first one of a new process
-abbrev pub by_creating : State → ℕ → ℕ → Option ℕ → Result (Answer × State) Answer
+abbrev pub by_creating : State → (task child : ℕ) → (process : Option ℕ)
+    → Result (Answer × State) Answer
 by_creating s task child None = by_spawn s task child
 by_creating s task child (Some process) = by_fork s task child process
 

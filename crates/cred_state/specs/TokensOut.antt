@@ -30,11 +30,11 @@ hold_loan hold = loan hold.label hold.slot (Some hold.cred)
 
 -- The loans of tokens that are out, the newest first. A writer's is that of none, whatever it
 -- has put.
-abbrev pub entries_of : Lent → List Loan
-entries_of (Asking hold query told) = hold_loan hold ∷ []
-entries_of (Opening hold file want fd may) = hold_loan hold ∷ []
-entries_of (Signalling from hold to target may) = hold_loan target ∷ hold_loan hold ∷ []
-entries_of (Altering base writer change made) =
+abbrev pub loans_of : Lent → List Loan
+loans_of (Asking hold query told) = hold_loan hold ∷ []
+loans_of (Opening hold file want fd may) = hold_loan hold ∷ []
+loans_of (Signalling from hold to target may) = hold_loan target ∷ hold_loan hold ∷ []
+loans_of (Altering base writer change made) =
     loan writer.label writer.slot None ∷ hold_loan base ∷ []
 
 -- the state of which this hold is lent
@@ -56,7 +56,7 @@ with_kept before base writer = record {
 abbrev pub with_lent : Standing → Lent → Standing
 with_lent before (Altering base writer change made) = with_kept before base writer
 with_lent before lent =
-    record before { words = record before.words { out = entries_of lent ++ before.words.out } }
+    record before { words = record before.words { out = loans_of lent ++ before.words.out } }
 
 -- the root ids are those of the user namespace and of its ancestors, if the change is an execve
 abbrev pub IsChainOf : Script → Change → ℕ → List ℕ → Type 0

@@ -11,7 +11,7 @@ use Rattle.std.proofs.lemmas.List.Sums.{position_or_len_is}
 use Rattle.cred_model.proofs.Lists.{found_none}
 use Rattle.cred_model.specs.State.{Hold}
 use Rattle.cred_tables.specs.declared.prepared.Preparation.{Preparation}
-use Rattle.cred_tables.specs.Holds.{hold_entry, holds_of, Releases}
+use Rattle.cred_tables.specs.Holds.{hold_as, holds_of, Releases}
 use Rattle.cred_tables.specs.Holds as held
 use Rattle.cred_tables.specs.Prepared.{prepared_as, all_prepared, GivesUp}
 use Rattle.cred_tables.specs.Prepared as prepared
@@ -102,7 +102,7 @@ module _ {X Y : Type 0} (of : ℕ → X → Y) (label_of : Y → ℕ) (own : (la
 
 -- ---- holds
 
-number_is : (label : ℕ) (found : Option ℕ) → found ≡ option_map (λ h. h.number) (option_map (λ n. hold_entry (label, n)) found)
+number_is : (label : ℕ) (found : Option ℕ) → found ≡ option_map (λ h. h.number) (option_map (λ n. hold_as (label, n)) found)
 number_is label None = refl
 number_is label (Some n) = refl
 
@@ -110,15 +110,15 @@ pub lookup-holds : (label : ℕ) (es : List (ℕ × ℕ))
     → lookup (nat_eq label) es ≡ option_map (λ h. h.number) (find (λ h. h.label == label) (holds_of es))
 lookup-holds label es =
     number_is label (lookup (nat_eq label) es)
-    ∙ ap (option_map (λ (h : Hold). h.number)) (sym (find-state_of (λ l n. hold_entry (l, n)) (λ h. h.label) (λ l n. refl) label es))
+    ∙ ap (option_map (λ (h : Hold). h.number)) (sym (find-state_of (λ l n. hold_as (l, n)) (λ h. h.label) (λ l n. refl) label es))
 
 no_hold : (label : ℕ) (es : List (ℕ × ℕ)) → lookup (nat_eq label) es ≡ None → held.hold_place (holds_of es) label ≡ None
-no_hold label es none = absent (λ l n. hold_entry (l, n)) (λ h. h.label) (λ l n. refl) label es none
+no_hold label es none = absent (λ l n. hold_as (l, n)) (λ h. h.label) (λ l n. refl) label es none
 
 released : (label number : ℕ) (es after : List (ℕ × ℕ)) → lookup (nat_eq label) es ≡ Some number → after ≡ remove_entry (nat_eq label) es
     → Releases (holds_of es) (holds_of after) label number
 released label number es after found left =
-    let was = removed (λ l n. hold_entry (l, n)) (λ h. h.label) (λ l n. refl) label number es after found left in
+    let was = removed (λ l n. hold_as (l, n)) (λ h. h.label) (λ l n. refl) label number es after found left in
     record { place = was.0; found = was.1; held = was.2; left = was.3 }
 
 pub release_of : (label : ℕ) (es after : List (ℕ × ℕ)) (found : Option ℕ) → found ≡ lookup (nat_eq label) es → after ≡ remove_entry (nat_eq label) es
@@ -129,7 +129,7 @@ release_of label es after (Some number) is left = released label number es after
 
 pub taken : (label number : ℕ) (es after : List (ℕ × ℕ)) → after ≡ es ++ (label, number) ∷ []
     → holds_of after ≡ holds_of es ++ record { label = label; number = number } ∷ []
-taken label number es after is = added (λ l n. hold_entry (l, n)) (λ h. h.label) (λ l n. refl) label number es after is
+taken label number es after is = added (λ l n. hold_as (l, n)) (λ h. h.label) (λ l n. refl) label number es after is
 
 -- ---- prepared labels
 

@@ -45,7 +45,8 @@ drops_all t {after = after} {given = given} is same held made =
 
 -- ---- numbers that are given up one after another
 
-module _ (numbers held : List ℕ) (each : AreHeld numbers held) (left : List ℕ) (i d : ℕ) (within : i < length numbers) (is : IsSameBag held (take i numbers ++ left)) where
+module _ (numbers held : List ℕ) (each : AreHeld numbers held) (left : List ℕ) (i d : ℕ) (within : i < length numbers)
+    (is : IsSameBag held (take i numbers ++ left)) where
   abbrev next : ℕ
   next = get_or numbers i d
 

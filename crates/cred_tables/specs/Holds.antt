@@ -3,11 +3,11 @@ use Rattle.std.specs.Prelude.{◌≡◌, ℕ, ◌==◌, List, map, position, rem
 use Rattle.std.specs.declared.option.Option.{Option}
 use Rattle.cred_model.specs.State.{Hold}
 
-abbrev pub hold_entry : ℕ × ℕ → Hold
-hold_entry entry = record { label = entry.0; number = entry.1 }
+abbrev pub hold_as : ℕ × ℕ → Hold
+hold_as entry = record { label = entry.0; number = entry.1 }
 
 abbrev pub holds_of : List (ℕ × ℕ) → List Hold
-holds_of entries = map hold_entry entries
+holds_of entries = map hold_as entries
 
 -- where a label stands among the holds
 abbrev pub hold_place : List Hold → ℕ → Option ℕ

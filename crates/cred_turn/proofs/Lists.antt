@@ -5,11 +5,11 @@ use Rattle.std.proofs.lemmas.List.{get_or-set_same, get_or-set_other}
 use Rattle.std.proofs.Math.ListN.{length-set}
 use mathlib.Core.Option.{some}
 use lib.ListN.{get_elem?}
-use Rattle.cred_turn.specs.declared.numbers.Numbers.{Numbers}
-use Rattle.cred_turn.specs.declared.view.Row.{Row}
-use Rattle.cred_turn.specs.declared.view.Lent.{Lent}
-use Rattle.cred_turn.specs.declared.view.View.{View}
-use Rattle.cred_turn.specs.declared.view.View.TheVariants.{Roll, Pass, Spent}
+use Rattle.cred_turn.specs.declared.numbers.LaneNumbers.{LaneNumbers}
+use Rattle.cred_turn.specs.declared.view.LaneRow.{LaneRow}
+use Rattle.cred_turn.specs.declared.view.LentPass.{LentPass}
+use Rattle.cred_turn.specs.declared.view.TurnView.{TurnView}
+use Rattle.cred_turn.specs.declared.view.TurnView.TheVariants.{Roll, Pass, Spent}
 use Rattle.cred_turn.specs.Rows.{fresh, home_row, lent_row, HasRow, row_of, with_row}
 use Rattle.cred_turn.specs.Rule.{lent_pass, passes, IsOfRow, LanesApart}
 
@@ -33,22 +33,22 @@ module _ {A : Type 0} where
 
 -- Passes among views
 
-pub passes-snoc : (vs : List View) (p : Lent) → passes (vs ++ Pass p ∷ []) ≡ passes vs ++ p ∷ []
+pub passes-snoc : (vs : List TurnView) (p : LentPass) → passes (vs ++ Pass p ∷ []) ≡ passes vs ++ p ∷ []
 passes-snoc [] p = refl
 passes-snoc (Roll rows kept ∷ vs) p = passes-snoc vs p
 passes-snoc (Pass q ∷ vs) p = ap (λ ps. q ∷ ps) (passes-snoc vs p)
 passes-snoc (Spent ∷ vs) p = passes-snoc vs p
 
 -- q has another lane than p
-abbrev pub Other : Lent → Lent → Type 0
+abbrev pub Other : LentPass → LentPass → Type 0
 Other p q = q.lane ≢ p.lane
 
-pub apart_snoc : (ps : List Lent) (p : Lent) → LanesApart ps → AllByRecursion (Other p) ps → LanesApart (ps ++ p ∷ [])
+pub apart_snoc : (ps : List LentPass) (p : LentPass) → LanesApart ps → AllByRecursion (Other p) ps → LanesApart (ps ++ p ∷ [])
 apart_snoc [] p h i = (tt, tt)
 apart_snoc (q ∷ ps) p h i = (all_snoc (Other q) ps p h.0 (λ e. i.0 (sym e)), apart_snoc ps p h.1 i.1)
 
 -- what holds of each pass holds of the one at j, and of the others once it is spent
-pub spent_all : (P : Lent → Type 0) (vs : List View) (j : ℕ) (p : Lent) → get_elem? vs j ≡ some (Pass p) → AllByRecursion P (passes vs)
+pub spent_all : (P : LentPass → Type 0) (vs : List TurnView) (j : ℕ) (p : LentPass) → get_elem? vs j ≡ some (Pass p) → AllByRecursion P (passes vs)
     → P p × AllByRecursion P (passes (set vs j Spent))
 spent_all P [] j p e h = absurd (cc)
 spent_all P (Roll rows kept ∷ vs) zero p e h = absurd (cc)
@@ -58,7 +58,8 @@ spent_all P (Pass q ∷ vs) (suc j) p e h = let r = spent_all P vs j p e h.1 in 
 spent_all P (Spent ∷ vs) zero p e h = absurd (cc)
 spent_all P (Spent ∷ vs) (suc j) p e h = spent_all P vs j p e h
 
-pub spent_apart : (vs : List View) (j : ℕ) (p : Lent) → get_elem? vs j ≡ some (Pass p) → LanesApart (passes vs) → LanesApart (p ∷ passes (set vs j Spent))
+pub spent_apart : (vs : List TurnView) (j : ℕ) (p : LentPass) → get_elem? vs j ≡ some (Pass p)
+    → LanesApart (passes vs) → LanesApart (p ∷ passes (set vs j Spent))
 spent_apart [] j p e h = absurd (cc)
 spent_apart (Roll rows kept ∷ vs) zero p e h = absurd (cc)
 spent_apart (Roll rows kept ∷ vs) (suc j) p e h = spent_apart vs j p e h
@@ -73,18 +74,19 @@ spent_apart (Spent ∷ vs) (suc j) p e h = spent_apart vs j p e h
 -- Rows
 
 -- a row that is not lent is no pass's
-pub home_is_nobodys : (rows : List Row) (lane : ℕ) (p : Lent) → (row_of rows lane).lent ≡ false → IsOfRow rows p → p.lane ≢ lane
-home_is_nobodys rows lane p home h same = true≢false (ap (λ (r : Row). r.lent) (sym h.1 ∙ ap (row_of rows) same) ∙ home)
+pub home_is_nobodys : (rows : List LaneRow) (lane : ℕ) (p : LentPass) → (row_of rows lane).lent ≡ false → IsOfRow rows p → p.lane ≢ lane
+home_is_nobodys rows lane p home h same = true≢false (ap (λ (r : LaneRow). r.lent) (sym h.1 ∙ ap (row_of rows) same) ∙ home)
 
 -- the row of a pass stays where another lane's is changed
-pub row_stays : (rows : List Row) (lane : ℕ) (x : Row) (p : Lent) → HasRow rows lane → IsOfRow rows p → p.lane ≢ lane → IsOfRow (with_row rows lane x) p
+pub row_stays : (rows : List LaneRow) (lane : ℕ) (x : LaneRow) (p : LentPass) → HasRow rows lane → IsOfRow rows p
+    → p.lane ≢ lane → IsOfRow (with_row rows lane x) p
 row_stays rows lane x p here h other =
     let old = h.0 in
     let n : p.lane - 1 ≢ lane - 1 = λ e. other (let a = old.0 in let b = here.0 in omega arith) in
     ((old.0, omega (arith, old.1, length-set rows (lane - 1) x)), get_or-set_other rows (lane - 1) (p.lane - 1) x (home_row fresh) n ∙ h.1)
 
 -- and a row that is lent is its pass's
-pub row_is_lent : (rows : List Row) (lane : ℕ) (n : Numbers) → HasRow rows lane → IsOfRow (with_row rows lane (lent_row n)) (lent_pass lane n)
+pub row_is_lent : (rows : List LaneRow) (lane : ℕ) (n : LaneNumbers) → HasRow rows lane → IsOfRow (with_row rows lane (lent_row n)) (lent_pass lane n)
 row_is_lent rows lane n here =
     let a = here.0 in
     let b = here.1 in

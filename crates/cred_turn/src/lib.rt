@@ -11,5 +11,5 @@ pub mod roll;
 mod rule;
 pub mod view;
 
-pub use numbers::Numbers;
+pub use numbers::LaneNumbers;
 pub use roll::{Pass, Roll};

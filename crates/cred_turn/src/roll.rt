@@ -3,9 +3,9 @@ ghost use Rattle.std.specs.Prelude.{◌≡◌, false, replicate, IfOk};
 ghost use Rattle.cred_turn.specs.Rows.{fresh, home_row, lent_row, HasRow, row_of, with_row};
 ghost use Rattle.cred_turn.specs.Seen.{pass};
 
-use crate::numbers::Numbers;
+use crate::numbers::LaneNumbers;
 use crate::rule::{Learns, Lends, Order, PassRule, Returns};
-use crate::view::View;
+use crate::view::TurnView;
 use atomic_table::{Seat, Table};
 use cred_ids::NoMemory;
 use std::alloc::Global;
@@ -15,8 +15,8 @@ use std::marker::{Brand, Model};
 /// rows stand in the proofs alone. Contracts see its identity and its rows.
 #[derive(Drop)]
 pub struct Roll {
-    table: Table<(), View, u32, PassRule, Global>,
-    seat: Seat<(), View>,
+    table: Table<(), TurnView, u32, PassRule, Global>,
+    seat: Seat<(), TurnView>,
 }
 
 impl Model for Roll {
@@ -26,7 +26,7 @@ impl Model for Roll {
     ghost Value = { Rolled };
 
     ghost use Rattle.cred_turn.specs.Rule.{rows_of};
-    ghost use Rattle.cred_turn.specs.declared.view.View.TheVariants.{Roll as IsRoll};
+    ghost use Rattle.cred_turn.specs.declared.view.TurnView.TheVariants.{Roll as IsRoll};
 
     ghost view = { λ r. record { id = r.table.shared.table_id; rows = rows_of r.seat.me.0 } };
 
@@ -40,7 +40,7 @@ impl Model for Roll {
 /// numbers with which it was lent.
 #[derive(Drop)]
 pub struct Pass {
-    seat: Seat<(), View>,
+    seat: Seat<(), TurnView>,
 }
 
 impl Model for Pass {
@@ -50,7 +50,7 @@ impl Model for Pass {
     ghost Value = { Passed };
 
     ghost use Rattle.cred_turn.specs.Rule.{lent_of};
-    ghost use Rattle.cred_turn.specs.declared.view.View.TheVariants.{Pass as IsPass};
+    ghost use Rattle.cred_turn.specs.declared.view.TurnView.TheVariants.{Pass as IsPass};
 
     ghost view = { λ p. pass p.seat.table_id (lent_of p.seat.me.0).lane
         (lent_of p.seat.me.0).numbers };
@@ -72,7 +72,7 @@ impl Roll {
     }
 
     /// Lends the lane's row, which gets these numbers. It takes no memory and waits for nobody.
-    pub fn lend(&mut self, lane: u32, numbers: Numbers) -> Pass
+    pub fn lend(&mut self, lane: u32, numbers: LaneNumbers) -> Pass
         requires lane { HasRow self.old.rows lane }
         requires home { (row_of self.old.rows lane).lent ≡ false }
         ensures pass { result ≡ pass self.old.id lane numbers }
@@ -85,7 +85,7 @@ impl Roll {
     }
 
     /// The same at an order that has the lane and the numbers.
-    fn lend_as<O: Order>(&mut self, lane: u32, numbers: Numbers) -> Pass
+    fn lend_as<O: Order>(&mut self, lane: u32, numbers: LaneNumbers) -> Pass
         requires order { (lane ≡ O.lane) × (numbers ≡ O.numbers) }
         requires lane { HasRow self.old.rows O.lane }
         requires home { (row_of self.old.rows O.lane).lent ≡ false }

@@ -1,12 +1,12 @@
 //! The rule of the passes, and what each of the three kinds of step does to a view.
-use crate::view::View;
+use crate::view::TurnView;
 use atomic_table::{Join, Play, Split, TableRule};
 use std::marker::{Brand, PhantomData};
 
 /// The rule. The table is told the number of lanes when it is made.
 pub struct PassRule;
 
-impl TableRule<(), View, u32> for PassRule {
+impl TableRule<(), TurnView, u32> for PassRule {
     ghost use Rattle.cred_turn.specs.Rule.{PassRuleHolds, first_roll};
 
     ghost holds = { λ _ s. PassRuleHolds s.words s.views };
@@ -17,11 +17,11 @@ impl TableRule<(), View, u32> for PassRule {
 /// What one call lends. Each call picks it, since a step sees its view and no argument.
 pub trait Order {
     ghost use Rattle.std.specs.Prelude.{ℕ};
-    ghost use Rattle.cred_turn.specs.declared.numbers.Numbers.{Numbers};
+    ghost use Rattle.cred_turn.specs.declared.numbers.LaneNumbers.{LaneNumbers};
 
     ghost lane: { ℕ };
 
-    ghost numbers: { Numbers };
+    ghost numbers: { LaneNumbers };
 }
 
 impl Order for Brand {
@@ -35,7 +35,7 @@ impl Order for Brand {
 /// Lends a row.
 pub struct Lends<O>(PhantomData<O>);
 
-impl<O: Order> Split<View> for Lends<O> {
+impl<O: Order> Split<TurnView> for Lends<O> {
     ghost use Rattle.cred_turn.specs.Rule.{after_lending_pass, pass_of};
 
     ghost left = { after_lending_pass O.lane O.numbers };
@@ -46,9 +46,9 @@ impl<O: Order> Split<View> for Lends<O> {
 /// Takes a seat back, and keeps its pass aside.
 pub struct Returns;
 
-impl Join<View> for Returns {
+impl Join<TurnView> for Returns {
     ghost use Rattle.cred_turn.specs.Rule.{after_return_of_pass};
-    ghost use Rattle.cred_turn.specs.declared.view.View.TheVariants.{Spent};
+    ghost use Rattle.cred_turn.specs.declared.view.TurnView.TheVariants.{Spent};
 
     ghost both = { after_return_of_pass };
 
@@ -58,7 +58,7 @@ impl Join<View> for Returns {
 /// Finds the row of the pass that is kept aside as it was lent, and marks it as not lent.
 pub struct Learns;
 
-impl Play<(), View> for Learns {
+impl Play<(), TurnView> for Learns {
     ghost use Rattle.std.specs.Prelude.{◌≡◌};
     ghost use Rattle.cred_turn.specs.Rule.{LearnedPass};
 

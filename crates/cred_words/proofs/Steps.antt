@@ -340,8 +340,8 @@ reads id t word n s h homes at range =
 
 -- 6. Put a word
 
-entry_put : (t : Token) (ws : List ℕ) → t.writes ≡ true → as_loan t ≡ as_loan (put_words t ws)
-entry_put t ws w = ap (λ (l : List ℕ). token t.ticket t.label t.slot t.writes l) (by t.writes w)
+loan_put : (t : Token) (ws : List ℕ) → t.writes ≡ true → as_loan t ≡ as_loan (put_words t ws)
+loan_put t ws w = ap (λ (l : List ℕ). token t.ticket t.label t.slot t.writes l) (by t.writes w)
   where
     by : (b : Bool) → b ≡ true → (if b then [] else t.words) ≡ (if b then [] else ws)
     by true e = refl
@@ -357,7 +357,7 @@ puts id t i v n small writes s h homes at range =
     let mine = one_of (λ q. Has b.loans (as_loan q)) all (suc b.j) t b.here k.has_loan in
     let stands = one_of (λ q. WordsStand s.words q.slot q.words) all (suc b.j) t b.here k.stand in
     let now = set s.words (word_place t.slot i) v in
-    let same_entry : as_loan t ≡ as_loan u = entry_put t (set t.words i v) writes in
+    let same_loan : as_loan t ≡ as_loan u = loan_put t (set t.words i v) writes in
     let apart_from =
     λ (q : Token) (m : Has b.loans (as_loan q)) (ne : q.ticket ≢ t.ticket). (apart_of b.loans (as_loan t) (as_loan q) k.apart mine m ne).writer writes in
     let both : AllByRecursion (λ q. Has b.loans (as_loan q) × WordsStand s.words q.slot q.words) (tokens_out_of all) =
@@ -382,7 +382,7 @@ puts id t i v n small writes s h homes at range =
           below_next = k.below_next;
           has_loan =
               swap_all (λ q. Has b.loans (as_loan q)) (λ q. Has b.loans (as_loan q)) all (suc b.j) t u b.here k.own_tickets (λ q _ m. m)
-              (subst (Has b.loans) same_entry mine) k.has_loan;
+              (subst (Has b.loans) same_loan mine) k.has_loan;
           own_tickets = swap_own all (suc b.j) t u b.here refl k.own_tickets;
           apart = k.apart;
           fit = k.fit;

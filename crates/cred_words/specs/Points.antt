@@ -46,7 +46,7 @@ pub record HaveLoans (views : List View) (d : Ledger) : Type 0 where
   pub distinct : AreDistinct (tokens_of d views)
 
 -- 3. a slot with a writer's loan has no second loan and is not sealed; a slot with a hold's loan
--- is sealed, and the entry's words are the master's of that slot
+-- is sealed, and the loan's words are the master's of that slot
 pub record FitSlots (d : Ledger) : Type 0 where
   pub alone :
       (e f : Token) → Has d.loans e → Has d.loans f → e.writes ≡ true → f.slot ≡ e.slot →

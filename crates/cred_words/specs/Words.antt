@@ -87,7 +87,7 @@ abbrev pub FitsAs : Bool → List Slot → Token → Type 0
 FitsAs true slots e = (ws : List ℕ) × (slice_get slots e.slot ≡ Some (slot_of ws false))
 FitsAs false slots e = slice_get slots e.slot ≡ Some (slot_of e.words true)
 
--- a writer's slot isn't sealed; a hold's is, with the entry's words
+-- a writer's slot isn't sealed; a hold's is, with the loan's words
 abbrev pub LoanFits : List Slot → Token → Type 0
 LoanFits slots e = FitsAs e.writes slots e
 

@@ -14,9 +14,9 @@ use cred_record::FileInfo;
 use std::alloc::Global;
 
 /// Changes the credential that is held, as `cred_decide::change` does, and puts the new one by the
-/// writer, if the change isn't refused. The new credential is also returned, since no memory may be
-/// wanted once it is put. The hold stays as it was, and so does the writer after an error. It waits
-/// for nobody.
+/// writer, if the change isn't refused. The new credential is also returned, since nothing may fail
+/// once it is put. The hold stays as it was, and so does the writer after an error. It waits for
+/// nobody.
 ///
 /// # Errors
 ///

@@ -14,7 +14,7 @@ ghost use Rattle.cred_work.specs.Decisions.{undecided, work_event, AreOf};
 ghost use Rattle.cred_work.specs.DecidedWorks.{IsDecided};
 ghost use Rattle.cred_tables.specs.Kept.{AreInPlace};
 ghost use Rattle.cred_tables.specs.Out.{AreHome, tokens_in, needs_tokens};
-ghost use Rattle.cred_state.specs.TokensOut.{entries_of, needs_decision};
+ghost use Rattle.cred_state.specs.TokensOut.{loans_of, needs_decision};
 ghost use Rattle.cred_book.specs.Book.{answer_of, infos_in};
 ghost use Rattle.cred_book.specs.Counts.{HasEntered};
 ghost use Rattle.cred_book.specs.Cursor.{Finishes, BookStands, NoLineIsLeft, steps_left};
@@ -172,7 +172,7 @@ impl Book {
             ≡ needs_tokens (replay self.old.script self.old.journal) event.now }
         ensures of { IfSome result (λ lent. AreOf cells.now lent × (work_event lent ≡ event.now)) }
         ensures bare { IfSome result (λ lent. undecided lent ≡ lent) }
-        ensures tokens { IfSome result (λ lent. entries_of lent
+        ensures tokens { IfSome result (λ lent. loans_of lent
             ≡ tokens_in (replay self.old.script self.old.journal) event.now) }
         ensures lent { IfSome result (λ lent. self.new ≡ with_out self.old lane line lent) }
         ensures none { IfNone result (self.new ≡ self.old) }

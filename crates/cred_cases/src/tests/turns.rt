@@ -2,7 +2,7 @@
 //! bytes, and that one goes through a thread of its own.
 ghost use Rattle.std.specs.Prelude.{◌≡◌};
 
-use cred_turn::{Numbers, Pass, Roll};
+use cred_turn::{LaneNumbers, Pass, Roll};
 use std::mem::size_of;
 use std::test::Fail;
 use std::thread::{Threads, join};
@@ -13,14 +13,14 @@ fn a_pass_has_no_bytes(rt: HostRuntime) -> Result<(), Fail> {
     Ok(())
 }
 
-const NOTHING: Numbers = Numbers {
+const NOTHING: LaneNumbers = LaneNumbers {
     entered: 0,
     decided: 0,
     ended: 0,
     out: None,
 };
 
-const SOMETHING: Numbers = Numbers {
+const SOMETHING: LaneNumbers = LaneNumbers {
     entered: 3,
     decided: 1,
     ended: 1,

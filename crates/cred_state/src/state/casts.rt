@@ -27,7 +27,7 @@ use cred_hold::Cells;
 use cred_ids::{Groups, NoMemory};
 use cred_ptrace::differs_by;
 use cred_record::{IdCall, Refusal};
-use cred_setid::{Parts, apply_parts};
+use cred_setid::{IdParts, apply_parts};
 use cred_tables::{Numbered, begin_in, drop_all, renew_in, seal_next, sweep_at};
 
 /// A broadcast by its place among the open ones, the least thread that waits in it, that thread's
@@ -85,7 +85,7 @@ impl State {
 
     /// What an id call looks at of the credential that was found. Something refers to it.
     #[inline(always)]
-    pub(super) fn read_parts(&mut self, cells: &Cells, found: Numbered) -> Parts
+    pub(super) fn read_parts(&mut self, cells: &Cells, found: Numbered) -> IdParts
         requires own { self.old.words.id ≡ cells.now }
         requires found { numbered self.old.state.creds found.number
             ≡ Some (seen_in self.old.state.creds found) }
@@ -107,7 +107,7 @@ impl State {
         task: u32,
         call: &IdCall,
         now: Numbered,
-        parts: &Parts,
+        parts: &IdParts,
         groups: &Option<Groups>,
         other: bool,
     ) -> Result<Answer, NoMemory>
@@ -190,7 +190,7 @@ impl State {
     ///
     /// What refuses the call. The parts then stay.
     #[inline(always)]
-    fn follow(&self, broadcast: usize, parts: &mut Parts) -> Result<Option<Groups>, Refusal>
+    fn follow(&self, broadcast: usize, parts: &mut IdParts) -> Result<Option<Groups>, Refusal>
         requires { broadcast < length self.now.state.broadcasts }
         ensures made { IfSome (slice_get self.now.state.broadcasts broadcast) (λ b. (c : Credential)
             → parts_of c ≡ parts.old
@@ -210,7 +210,7 @@ impl State {
         cells: &Cells,
         number: u32,
         next: Next,
-        parts: &Parts,
+        parts: &IdParts,
         groups: &Option<Groups>,
         other: bool,
     ) -> Result<Answer, NoMemory>

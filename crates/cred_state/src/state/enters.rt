@@ -18,7 +18,7 @@ ghost use Rattle.cred_words.specs.Lists.{IsTaken};
 ghost use Rattle.cred_hold.specs.Tokens.{loan};
 ghost use Rattle.cred_work.specs.Decisions.{work_event, AreOf, IsPut, IsRight};
 ghost use Rattle.cred_tables.specs.Out.{AreBack, AreOut};
-ghost use Rattle.cred_state.specs.TokensOut.{entries_of, hold_loan, HoldsApart, AreTaken, IsChain};
+ghost use Rattle.cred_state.specs.TokensOut.{loans_of, hold_loan, HoldsApart, AreTaken, IsChain};
 ghost use Rattle.cred_state.specs.TokensOut.{IsBase, IsMadeOf, IsMadePut};
 
 use crate::state::State;
@@ -50,9 +50,9 @@ impl State {
             → IfOk result (λ answer.
             GivesLike self.old.state (done script self.old.state line (work_event lent)) answer
             self.new.state) }
-        ensures back { OnOk result (AreBack (entries_of lent) self.old.words self.new.words) }
+        ensures back { OnOk result (AreBack (loans_of lent) self.old.words self.new.words) }
         ensures taken { OnOk result
-            (AreTaken (entries_of lent) self.old.words.out self.new.words.out) }
+            (AreTaken (loans_of lent) self.old.words.out self.new.words.out) }
         ensures err { IfErr result (λ left. (self.new ≡ self.old) × (left ≡ lent)) }
     {
         match lent {

@@ -6,7 +6,7 @@ ghost use Rattle.cred_sound.specs.Sound.{IsSound};
 ghost use Rattle.cred_work.specs.Decisions.{undecided, work_event, AreOf};
 ghost use Rattle.cred_tables.specs.Kept.{cred_under, seen_in, IsInUse};
 ghost use Rattle.cred_tables.specs.Out.{AreHome, AreOut, hold_token, tokens_in, needs_tokens};
-ghost use Rattle.cred_state.specs.TokensOut.{entries_of, hold_loan, with_hold, with_kept};
+ghost use Rattle.cred_state.specs.TokensOut.{loans_of, hold_loan, with_hold, with_kept};
 ghost use Rattle.cred_state.specs.TokensOut.{needs_decision, with_lent, IsHome, IsKeptBy, IsNs};
 ghost use Rattle.cred_state.specs.TokensOut.{IsStanding};
 
@@ -32,7 +32,7 @@ impl State {
         requires home { AreHome event.now self.old.words.out }
         ensures waits { is_some result ≡ needs_tokens self.old.state event.now }
         ensures of { IfSome result (λ lent. AreOf cells.now lent × (work_event lent ≡ event.now)) }
-        ensures tokens { IfSome result (λ lent. entries_of lent
+        ensures tokens { IfSome result (λ lent. loans_of lent
             ≡ tokens_in self.old.state event.now) }
         ensures bare { IfSome result (λ lent. undecided lent ≡ lent) }
         ensures lent { IfSome result (λ lent. self.new ≡ with_lent self.old lent) }

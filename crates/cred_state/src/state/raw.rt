@@ -19,7 +19,7 @@ use cred_hold::Cells;
 use cred_ids::{Groups, NoMemory};
 use cred_ptrace::differs_by;
 use cred_record::{IdCall, Refusal};
-use cred_setid::{Parts, apply_parts};
+use cred_setid::{IdParts, apply_parts};
 use cred_tables::{Numbered, renew_in, seal_next};
 
 impl State {
@@ -72,7 +72,7 @@ impl State {
         cells: &Cells,
         task: u32,
         now: Numbered,
-        parts: &Parts,
+        parts: &IdParts,
         groups: &Option<Groups>,
         other: bool,
     ) -> Result<Answer, NoMemory>

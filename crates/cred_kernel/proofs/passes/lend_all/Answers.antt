@@ -1,5 +1,5 @@
 use Rattle.std.proofs.Common.{◌≡◌, ℕ, ◌+◌, ◌<◌, length, ◌∙◌, rules, arith}
-use Rattle.cred_turn.specs.declared.numbers.Numbers.{Numbers}
+use Rattle.cred_turn.specs.declared.numbers.LaneNumbers.{LaneNumbers}
 use Rattle.cred_turn.specs.Rows.{lent_row}
 use Rattle.cred_kernel.specs.Locks.{numbers_in}
 use Rattle.cred_kernel.proofs.FirstLoans.{home_after, lent_more, turns_more}
@@ -10,7 +10,7 @@ lanes-preserved g c =
     let at = c.lanes in
     let book = c.args.book.now in
     let n = at.place in
-    let its : ℕ → Numbers = λ k. numbers_in book (k + 1) in
+    let its : ℕ → LaneNumbers = λ k. numbers_in book (k + 1) in
     let first = c.requires.ready.first in
     let some : 0 < n + 1 = omega arith in
     let entered = first.entered (n + 1) some in

@@ -17,7 +17,8 @@ written now before n same is =
 pub loop-broadcast-preserved : goal.loop-broadcast-preserved
 loop-broadcast-preserved c =
     rw (c.leave.ensures ∙ ap (without_waiter c.args.task) (sym c.broadcast-item.is))
-    (map_over_more (without_waiter c.args.task) c.deref_mut-broadcast-items.result.now c.loop-broadcast.broadcast-items c.loop-broadcast.broadcast-index c.broadcast-item.result
+    (map_over_more (without_waiter c.args.task) c.deref_mut-broadcast-items.result.now c.loop-broadcast.broadcast-items c.loop-broadcast.broadcast-index
+    c.broadcast-item.result
     c.loop-broadcast-test.true c.loop-broadcast.invariant c.broadcast-item.is)
 
 pub returns : goal.returns

@@ -16,5 +16,6 @@ none_other task (n ∷ ns) all = step (n == task) all (none_other task ns)
 pub returns-then-all : goal.returns-then-all
 returns-then-all c = c.new.ensures.items ∙ sym (none_other c.args.task c.args.tasks.now
     (sym
-    (all_from_yields_List (λ (n : ℕ). n == c.args.task) _ _ c.all.result c.all.ensures.ran (YieldsList-from_slice _ c.iter.ensures.rest) (λ x b q k. search (rules, tests)))
+    (all_from_yields_List (λ (n : ℕ). n == c.args.task) _ _ c.all.result c.all.ensures.ran (YieldsList-from_slice _ c.iter.ensures.rest)
+    (λ x b q k. search (rules, tests)))
     ∙ c.if-all.true))

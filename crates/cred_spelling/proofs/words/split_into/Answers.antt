@@ -17,6 +17,7 @@ extended v r ran road then = fact_from_extend v r ran (λ it is. YieldsList-at i
 pub returns : goal.returns
 returns c = extended (λ (word : Bor (List ℕ)). word.now) c.extend.result c.extend.ensures.ran
     (YieldsList-from_filter _ (λ word. not (length {A = ℕ} word == 0))
-    (YieldsList-at c.filter.ensures.source (YieldsList-from_slice_split _ (λ b. b == 32) c.args.line.now c.split.ensures.rest c.split.ensures.done c.split.ensures.closure (λ x r q k. search (rules, tests))))
+    (YieldsList-at c.filter.ensures.source (YieldsList-from_slice_split _ (λ b. b == 32) c.args.line.now c.split.ensures.rest c.split.ensures.done
+    c.split.ensures.closure (λ x r q k. search (rules, tests))))
     c.filter.ensures.closure (λ x r q k. search (rules, tests)))
     (λ xs all gives. ap (map (λ (word : Bor (List ℕ)). word.now)) (gives.0 ∙ ap (λ ws. ws ++ xs) c.clear.ensures.items) ∙ all)

@@ -49,7 +49,15 @@ returns-clause-entered c =
     ∙ ap
     (λ (n : ℕ). b.journal.items ++ entry n
     (answer_of
-    (record { script = b.script; journal = b.journal.items; cursors = b.cursors; ended = b.ended.items; outs = b.outs.items; words = b.state.words; places = b.state.places })
+    (record {
+      script = b.script;
+      journal = b.journal.items;
+      cursors = b.cursors;
+      ended = b.ended.items;
+      outs = b.outs.items;
+      words = b.state.words;
+      places = b.state.places;
+    })
     n c.args.event)
     ∷ [])
     number in

@@ -17,7 +17,7 @@ use Rattle.cred_work.specs.declared.lent.Lent.{Lent}
 use Rattle.cred_work.specs.Work.{Work}
 use Rattle.cred_tables.specs.Out.{AreBack}
 use Rattle.cred_tables.proofs.Outs.{out_like}
-use Rattle.cred_state.specs.TokensOut.{AreTaken, IsChain, entries_of}
+use Rattle.cred_state.specs.TokensOut.{AreTaken, IsChain, loans_of}
 use Rattle.cred_book.specs.Book.{Recorded, answer_of, infos_in}
 use Rattle.cred_book.proofs.Entered.{enters, follows_sound, out_left, replays}
 use Rattle.cred_book.proofs.Finished.{left_there, lent_waits}
@@ -39,8 +39,8 @@ invariant_of-self-in-Ok-enter c =
     let line : c.line-line.result ≡ w.line = c.line-line.ensures ∙ ap (λ (x : Work). x.line) (sym apart) in
     let entered : c.event-event.result ≡ work_event w.lent = c.event-event.ensures ∙ ap (λ (x : Work). work_event x.lent) (sym apart) in
     let lent : c.apart-asked.result.1 ≡ w.lent = ap (λ (x : Work). x.lent) (sym apart) in
-    let taken : AreTaken (entries_of w.lent) b.state.words.out c.enter.new.self.words.out
-    = subst (λ (l : Lent). AreTaken (entries_of l) b.state.words.out c.enter.new.self.words.out) lent c.in-Ok-enter.ensures.taken in
+    let taken : AreTaken (loans_of w.lent) b.state.words.out c.enter.new.self.words.out
+    = subst (λ (l : Lent). AreTaken (loans_of l) b.state.words.out c.enter.new.self.words.out) lent c.in-Ok-enter.ensures.taken in
     let its : work_event c.apart-asked.result.1 ≡ work_event w.lent = ap work_event lent in
     let chain =
     subst (λ (l : Lent). IsChain b.script l w.chain) (sym lent)
@@ -64,7 +64,7 @@ invariant_of-self-in-Ok-enter c =
           c.self.invariant.0 ok longer,
       out_left b.script b.journal.items c.push_reserved.new.self.items (entry w.line (work_event w.lent) c.in-Ok-enter.answer) b.state.words.out
           c.enter.new.self.words.out (lent_waits w.lent)
-          (left_there (entries_of w.lent) b.state.words.out c.enter.new.self.words.out taken) c.self.invariant.1 longer,
+          (left_there (loans_of w.lent) b.state.words.out c.enter.new.self.words.out taken) c.self.invariant.1 longer,
     )
 
 pub returns-in-Ok-enter-clause-entered : goal.returns-in-Ok-enter-clause-entered
@@ -75,10 +75,10 @@ returns-in-Ok-enter-clause-entered c =
     let line : c.line-line.result ≡ w.line = c.line-line.ensures ∙ ap (λ (x : Work). x.line) (sym apart) in
     let entered : c.event-event.result ≡ work_event w.lent = c.event-event.ensures ∙ ap (λ (x : Work). work_event x.lent) (sym apart) in
     let lent : c.apart-asked.result.1 ≡ w.lent = ap (λ (x : Work). x.lent) (sym apart) in
-    let taken : AreTaken (entries_of w.lent) b.state.words.out c.enter.new.self.words.out
-    = subst (λ (l : Lent). AreTaken (entries_of l) b.state.words.out c.enter.new.self.words.out) lent c.in-Ok-enter.ensures.taken in
-    let back : AreBack (entries_of w.lent) b.state.words c.enter.new.self.words
-    = subst (λ (l : Lent). AreBack (entries_of l) b.state.words c.enter.new.self.words) lent c.in-Ok-enter.ensures.back in
+    let taken : AreTaken (loans_of w.lent) b.state.words.out c.enter.new.self.words.out
+    = subst (λ (l : Lent). AreTaken (loans_of l) b.state.words.out c.enter.new.self.words.out) lent c.in-Ok-enter.ensures.taken in
+    let back : AreBack (loans_of w.lent) b.state.words c.enter.new.self.words
+    = subst (λ (l : Lent). AreBack (loans_of l) b.state.words c.enter.new.self.words) lent c.in-Ok-enter.ensures.back in
     let its : work_event c.apart-asked.result.1 ≡ work_event w.lent = ap work_event lent in
     let chain =
     subst (λ (l : Lent). IsChain b.script l w.chain) (sym lent)

@@ -59,7 +59,8 @@ move_on-requires c =
     let here : due_of book.cursors c.args.lane ≡ Some course
     = due_found _ book c.args.lane _ _ c.self.view_is c.due.ensures c.in-Some.is in
     let may = due_counts book c.args.lane course c.requires.stands here in
-    let same : c.take_home.new.self ≡ at_home (back_in book c.args.work.line (work_event c.args.work.lent) c.enter_decided.new.self.words c.enter_decided.new.self.places) c.args.lane
+    let same : c.take_home.new.self
+    ≡ at_home (back_in book c.args.work.line (work_event c.args.work.lent) c.enter_decided.new.self.words c.enter_decided.new.self.places) c.args.lane
     = c.take_home.ensures ∙ ap (λ (b : Recorded). at_home b c.args.lane) c.in_ok-cursor.ensures.entered.same in
     record {
       cursors = subst (λ (b : Recorded). c.args.lane < length b.cursors) (sym same) (lane_has_place book.cursors c.args.lane course here);

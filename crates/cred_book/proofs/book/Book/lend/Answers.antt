@@ -7,7 +7,7 @@ use Rattle.cred_work.specs.declared.lent.Lent.{Lent}
 use Rattle.cred_tables.specs.Kept.{Standing}
 use Rattle.cred_tables.specs.Out.{AreHome, AreOut, tokens_in}
 use Rattle.cred_tables.proofs.Outs.{out_like, tokens_like}
-use Rattle.cred_state.specs.TokensOut.{entries_of, with_lent}
+use Rattle.cred_state.specs.TokensOut.{loans_of, with_lent}
 use Rattle.cred_state.proofs.TokensOut.{like_lent}
 use Rattle.cred_book.specs.Book.{Recorded}
 use Rattle.cred_book.proofs.Entered.{follows_sound}
@@ -32,7 +32,7 @@ invariant_of-self-2 c =
     let lent : Lent = c.in_ok-lent.lent in
     let is : c.lend.new.self ≡ with_lent b.state lent = c.in_ok-lent.ensures.lent in
     let sound = follows_sound b.script b.state.state b.journal.items c.self.invariant.0 in
-    let tokens : entries_of lent ≡ tokens_in b.state.state c.args.event.now = c.in_ok-lent.ensures.tokens in (
+    let tokens : loans_of lent ≡ tokens_in b.state.state c.args.event.now = c.in_ok-lent.ensures.tokens in (
       (
         subst (λ (t : State). IsLike t s) (sym (ap (λ (x : Standing). x.state) is))
             (like_trans (with_lent b.state lent).state b.state.state s
@@ -46,5 +46,5 @@ invariant_of-self-2 c =
 pub returns-clause-tokens : goal.returns-clause-tokens
 returns-clause-tokens c =
     let b = c.self.inside in
-    subst (λ (r : Recorded). entries_of c.in_ok-lent.lent ≡ tokens_in (replay r.script r.journal) c.args.event.now) c.self.view_is
+    subst (λ (r : Recorded). loans_of c.in_ok-lent.lent ≡ tokens_in (replay r.script r.journal) c.args.event.now) c.self.view_is
     (c.in_ok-lent.ensures.tokens ∙ tokens_like b.state.state (replay b.script b.journal.items) c.self.invariant.0.0 c.args.event.now)

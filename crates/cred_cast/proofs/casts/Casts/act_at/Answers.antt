@@ -33,7 +33,8 @@ pub returns-else-left-eq0-clause-broadcasts : goal.returns-else-left-eq0-clause-
 returns-else-left-eq0-clause-broadcasts c =
     let broadcasts = c.self.inside.broadcasts.items in
     rw (← c.self.view_is)
-    (left_open broadcasts c.args.task c.args.place c.index_mut-broadcast.result.now c.self.invariant (rw (← c.self.view_is) at c.requires) c.index_mut-broadcast.ensures.value
+    (left_open broadcasts c.args.task c.args.place c.index_mut-broadcast.result.now c.self.invariant (rw (← c.self.view_is) at c.requires)
+    c.index_mut-broadcast.ensures.value
     c.others-left.result c.others-left.ensures c.step.new.self c.step.ensures c.if-left-eq0.false)
 
 pub invariant_of-self : goal.invariant_of-self
@@ -50,6 +51,7 @@ pub invariant_of-self-else-left-eq0 : goal.invariant_of-self-else-left-eq0
 invariant_of-self-else-left-eq0 c =
     let broadcasts = c.self.inside.broadcasts.items in
     let left
-    = left_open broadcasts c.args.task c.args.place c.index_mut-broadcast.result.now c.self.invariant (rw (← c.self.view_is) at c.requires) c.index_mut-broadcast.ensures.value
+    = left_open broadcasts c.args.task c.args.place c.index_mut-broadcast.result.now c.self.invariant (rw (← c.self.view_is) at c.requires)
+    c.index_mut-broadcast.ensures.value
     c.others-left.result c.others-left.ensures c.step.new.self c.step.ensures c.if-left-eq0.false in
     subst AreBroadcasts (sym left) (are_left c.args.task broadcasts c.self.invariant)

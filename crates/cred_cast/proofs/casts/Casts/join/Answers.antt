@@ -34,7 +34,8 @@ invariant_of-self c =
     (λ joins.
     subst AreBroadcasts
     (sym
-    (joined_place c.args.parent c.args.child broadcasts c.in-Some.place broadcast now c.self.invariant.apart (sym place ∙ c.in-Some.is) c.index_mut.ensures.value joins))
+    (joined_place c.args.parent c.args.child broadcasts c.in-Some.place broadcast now c.self.invariant.apart (sym place ∙ c.in-Some.is)
+    c.index_mut.ensures.value joins))
     (are_joined c.args.parent c.args.child broadcasts (rw (← c.self.view_is) at c.requires) c.self.invariant))
     (λ same.
     subst AreBroadcasts (sym (ap (set broadcasts c.in-Some.place) (same ∙ c.index_mut.ensures.value) ∙ set-get_or broadcasts c.in-Some.place broadcast))

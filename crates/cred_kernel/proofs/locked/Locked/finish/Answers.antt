@@ -1,5 +1,5 @@
 use Rattle.std.proofs.Common.{◌≡◌, ◌≢◌, ◌<◌, ◌^◌, ℕ, length, sym, ap, ◌∙◌, subst, arith}
-use Rattle.cred_turn.specs.declared.numbers.Numbers.{Numbers}
+use Rattle.cred_turn.specs.declared.numbers.LaneNumbers.{LaneNumbers}
 use Rattle.cred_turn.specs.Seen.{pass}
 use Rattle.cred_book.specs.Book.{Recorded}
 use Rattle.cred_book.specs.declared.step.Unfinished.{Unfinished}
@@ -41,8 +41,8 @@ invariant_of-self g c =
     let book : Recorded = c.self.inside.book in
     let after : Recorded = c.finish-step.new.self in
     let lane = c.turn.inside.lane in
-    let numbers : Numbers = c.turn.inside.numbers in
-    let now : Numbers = c.after_finish-turn-inside.result in
+    let numbers : LaneNumbers = c.turn.inside.numbers in
+    let now : LaneNumbers = c.after_finish-turn-inside.result in
     let step = c.finish-step.result in
     let back : c.in-Some.pass ≡ pass g.K.Name.roll lane numbers
     = is_back c.take.result c.in-Some.pass _ c.in-Some.is (c.take.ensures.value ∙ c.turn.invariant.pass_is) in
@@ -51,7 +51,7 @@ invariant_of-self g c =
     c.take-2.ensures.lane c.take-2.ensures.was in
     let same = err_same (λ (u : Unfinished). u.work ≡ c.args.work) book after step c.finish-step.ensures.err in
     let moved : IsMoved book after lane now
-    = subst (λ (n : Numbers). IsMoved book after lane n)
+    = subst (λ (n : LaneNumbers). IsMoved book after lane n)
     (sym (c.after_finish-turn-inside.ensures ∙ ap (λ (e : ℕ). after_finish numbers e step) c.ended.ensures))
     (moved_back book after lane numbers step was c.finish-step.ensures.counts same) in
     let not_setup : lane ≢ 0 = λ zero. omega (arith, zero, c.turn.invariant.is_lane.0) in

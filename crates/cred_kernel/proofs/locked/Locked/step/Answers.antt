@@ -2,7 +2,7 @@ use Rattle.std.proofs.Common.{◌≡◌, ◌≢◌, ◌<◌, ◌^◌, ℕ, lengt
 use Rattle.std.specs.Prelude.{IfOk}
 use Rattle.cred_model.specs.Script.{Script}
 use Rattle.cred_model.specs.Journal.{next}
-use Rattle.cred_turn.specs.declared.numbers.Numbers.{Numbers}
+use Rattle.cred_turn.specs.declared.numbers.LaneNumbers.{LaneNumbers}
 use Rattle.cred_turn.specs.Seen.{pass}
 use Rattle.cred_book.specs.Book.{Recorded}
 use Rattle.cred_kernel.specs.Advances.{Advanced, after_step}
@@ -31,8 +31,8 @@ invariant_of-self g c =
     let book : Recorded = c.self.inside.book in
     let after : Recorded = c.next-step.new.self in
     let lane = c.turn.inside.lane in
-    let numbers : Numbers = c.turn.inside.numbers in
-    let now : Numbers = c.after_step-turn-inside.result in
+    let numbers : LaneNumbers = c.turn.inside.numbers in
+    let now : LaneNumbers = c.after_step-turn-inside.result in
     let step = c.next-step.result in
     let back : c.in-Some.pass ≡ pass g.K.Name.roll lane numbers
     = is_back c.take.result c.in-Some.pass _ c.in-Some.is (c.take.ensures.value ∙ c.turn.invariant.pass_is) in
@@ -41,7 +41,8 @@ invariant_of-self g c =
     c.take-2.ensures.lane c.take-2.ensures.was in
     let home = ap (λ (t : Seen). t.numbers.out) c.turn.view_is ∙ c.requires.out in
     let its : IsMoved book after lane now
-    = subst (λ (n : Numbers). IsMoved book after lane n) (sym (c.after_step-turn-inside.ensures ∙ ap (λ (e : ℕ). after_step numbers e step) c.ended.ensures))
+    = subst (λ (n : LaneNumbers). IsMoved book after lane n)
+    (sym (c.after_step-turn-inside.ensures ∙ ap (λ (e : ℕ). after_step numbers e step) c.ended.ensures))
     (moved book after lane numbers (next book.script book.journal lane) step was home c.next-step.ensures.script
     c.next-step.ensures.made c.next-step.ensures.counts c.next-step.ensures.err) in
     let not_setup : lane ≢ 0 = λ zero. omega (arith, zero, c.turn.invariant.is_lane.0) in
@@ -55,8 +56,8 @@ returns-clause-step g c =
     let book : Recorded = c.self.inside.book in
     let after : Recorded = c.next-step.new.self in
     let lane = c.turn.inside.lane in
-    let numbers : Numbers = c.turn.inside.numbers in
-    let now : Numbers = c.after_step-turn-inside.result in
+    let numbers : LaneNumbers = c.turn.inside.numbers in
+    let now : LaneNumbers = c.after_step-turn-inside.result in
     let step = c.next-step.result in
     let script = g.K.Name.script in
     let cells = g.K.Name.cells in
@@ -74,5 +75,5 @@ returns-clause-step g c =
     c.self.invariant.set_up c.next-step.ensures.made c.next-step.ensures.counts c.next-step.ensures.err in
     subst (λ (t : Seen). IfOk step (Advanced script infos cells t (seen lane now))) c.turn.view_is
     (subst (λ (s : Script). IfOk step (Advanced s infos cells (seen lane numbers) (seen lane now))) c.self.invariant.script_is
-    (subst (λ (n : Numbers). IfOk step (Advanced book.script infos cells (seen lane numbers) (seen lane n)))
+    (subst (λ (n : LaneNumbers). IfOk step (Advanced book.script infos cells (seen lane numbers) (seen lane n)))
     (sym (c.after_step-turn-inside.ensures ∙ ap (λ (e : ℕ). after_step numbers e step) c.ended.ensures)) made))

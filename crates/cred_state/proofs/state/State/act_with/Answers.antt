@@ -5,7 +5,8 @@ use Rattle.cred_model.specs.State.{Task, task_of}
 use Rattle.cred_model.specs.Dumpable.{renewed}
 use Rattle.cred_setid.specs.Parts.{changed}
 use Rattle.cred_tables.specs.Kept.{cred_under, as_parts, state_of}
-use Rattle.cred_state.proofs.Acts.{next_is, next-lives, broadcast_there, waits_there, place_within, set_there, aborts_so, same_spare, act_full, act_kept, act_sealed}
+use Rattle.cred_state.proofs.Acts.{next_is, next-lives, broadcast_there, waits_there, place_within, set_there, aborts_so, same_spare, act_full, act_kept}
+use Rattle.cred_state.proofs.Acts.{act_sealed}
 use Rattle.cred_tables.proofs.Bags.{bag-keeps}
 use Rattle.cred_model.proofs.Places.{if_some}
 use Rattle.cred_tables.proofs.Sealing.{current-held, drops, none_spare, seals_spare}
@@ -92,7 +93,8 @@ invariant_of-self-2 c =
     let next = next_is s c.args.number c.args.next.task sound found.least in
     let new = changed (cred_under s.creds c.args.next.now.number) c.args.parts.now c.args.groups.now in
     let rule =
-    if_some (λ broadcast. set_id (cred_under s.creds c.args.next.now.number) broadcast.call ≡ Ok new) (slice_get s.broadcasts c.args.next.broadcast) next.broadcast
+    if_some (λ broadcast. set_id (cred_under s.creds c.args.next.now.number) broadcast.call ≡ Ok new)
+    (slice_get s.broadcasts c.args.next.broadcast) next.broadcast
     (broadcast_there next c.args.next.broadcast found.under) (rw (← c.self.view_is) at c.requires.made) in
     let made =
     c.set_like.ensures.made _
@@ -116,13 +118,16 @@ returns-clause-ok c =
     let next = next_is s c.args.number c.args.next.task sound found.least in
     let new = changed (cred_under s.creds c.args.next.now.number) c.args.parts.now c.args.groups.now in
     let rule =
-    if_some (λ broadcast. set_id (cred_under s.creds c.args.next.now.number) broadcast.call ≡ Ok new) (slice_get s.broadcasts c.args.next.broadcast) next.broadcast
+    if_some (λ broadcast. set_id (cred_under s.creds c.args.next.now.number) broadcast.call ≡ Ok new)
+    (slice_get s.broadcasts c.args.next.broadcast) next.broadcast
     (broadcast_there next c.args.next.broadcast found.under) (rw (← c.self.view_is) at c.requires.made) in
     let made =
     c.set_like.ensures.made _
     (found-place c.self.invariant.0 c.args.next.now (is_found s.creds (λ (t : Task). t.current) (task_of s c.args.next.task) _ found.has)
     (current-in_use s c.args.next.task _ found.has)) in
-    let left = if_some _ (slice_get s.broadcasts c.args.next.broadcast) next.broadcast (broadcast_there next c.args.next.broadcast found.under) c.act_at-left.ensures.left in
+    let left =
+    if_some _ (slice_get s.broadcasts c.args.next.broadcast) next.broadcast (broadcast_there next c.args.next.broadcast found.under)
+    c.act_at-left.ensures.left in
     let flags = c.renew_in.ensures next.owner next.lives
     ∙ ap (renewed t.dump next.owner.process) (rw (← c.self.view_is) at c.requires.other) in
     rw (← c.self.view_is, set_there next _ found.there _ c.set_current_at.ensures, made, c.act_at-left.ensures.broadcasts, flags)
@@ -140,7 +145,8 @@ returns-in_default-clause-ok c =
     let next = next_is s c.args.number c.args.next.task sound found.least in
     let new = changed (cred_under s.creds c.args.next.now.number) c.args.parts.now c.args.groups.now in
     let rule =
-    if_some (λ broadcast. set_id (cred_under s.creds c.args.next.now.number) broadcast.call ≡ Ok new) (slice_get s.broadcasts c.args.next.broadcast) next.broadcast
+    if_some (λ broadcast. set_id (cred_under s.creds c.args.next.now.number) broadcast.call ≡ Ok new)
+    (slice_get s.broadcasts c.args.next.broadcast) next.broadcast
     (broadcast_there next c.args.next.broadcast found.under) (rw (← c.self.view_is) at c.requires.made) in
     let none = sym c.in_default.ensures in
     let ended = c.end_process_of in

@@ -97,7 +97,8 @@ returns-in-Ok-clause-words c =
     let put = c.in-Ok.ensures.put in
     let label = ap (λ (w : Written). w.label) put ∙ put_label made writer in
     let slot = ap (λ (w : Written). w.slot) put ∙ put_slot made writer in
-    let loans : loan c.alter.new.writer.label c.alter.new.writer.slot None ∷ hold_loan c.alter.new.base ∷ [] ≡ loan writer.label writer.slot None ∷ hold_loan base ∷ []
+    let loans : loan c.alter.new.writer.label c.alter.new.writer.slot None ∷ hold_loan c.alter.new.base ∷ []
+    ≡ loan writer.label writer.slot None ∷ hold_loan base ∷ []
     = λ k. loan (label k) (slot k) None ∷ hold_loan (c.in-Ok.ensures.base k) ∷ [] in
     let taken = subst (λ (x : Standing). AreTaken (loan writer.label writer.slot None ∷ hold_loan base ∷ []) x.words.out new.out) its.lent
     (subst (λ (es : List Loan). AreTaken es c.lend_kept.new.self.words.out new.out) loans c.enter_alter.ensures.taken) in

@@ -35,7 +35,8 @@ begin_in-requires c =
     let t = c.self.inside in
     let may = rw (← c.self.view_is) at c.requires.may in
     let sound = rw (← c.self.view_is) at c.requires.sound in
-    broadcast_may_begin (state_of (as_parts t.tasks t.broadcasts t.files t.holds t.prepared t.dump t.infos) t.master.slots t.slots) c.args.line c.args.task _ may
+    broadcast_may_begin (state_of (as_parts t.tasks t.broadcasts t.files t.holds t.prepared t.dump t.infos) t.master.slots t.slots)
+    c.args.line c.args.task _ may
     sound
 
 pub renew_in-requires : goal.renew_in-requires

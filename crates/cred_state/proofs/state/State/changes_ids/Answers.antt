@@ -2,7 +2,7 @@ use Rattle.std.proofs.Common.{◌≡◌, Option, Some, None, sym, ap, ◌∙◌}
 use Rattle.std.specs.Option.{option_map}
 use Rattle.cred_ids.specs.declared.id.Ids4.{Ids4}
 use Rattle.cred_model.specs.State.{Changed, Task, task_of}
-use Rattle.cred_setid.specs.declared.parts.Parts.{Parts}
+use Rattle.cred_setid.specs.declared.parts.IdParts.{IdParts}
 use Rattle.cred_tables.specs.Kept.{seen_in}
 use Rattle.cred_tables.specs.Prepared.{changed_of}
 use Rattle.cred_state.proofs.Reading.{is_found}
@@ -38,5 +38,5 @@ returns-clause-other c = λ last is.
     let ids = ids_are last (changed_of s.prepared c.args.label) _ _ c.in-Some.ensures is in
     let parts = c.read_parts-old.ensures.parts.0 in
     differs_current s c.args.task last now c.differs_by.result (sym c.in-Some-current.ensures)
-    (c.differs_by.ensures now.cred last.cred (sym (ap (λ (p : Parts). p.uid) parts))
-    (sym (ap (λ (p : Parts). p.gid) parts)) ids.0 ids.1)
+    (c.differs_by.ensures now.cred last.cred (sym (ap (λ (p : IdParts). p.uid) parts))
+    (sym (ap (λ (p : IdParts). p.gid) parts)) ids.0 ids.1)

@@ -39,7 +39,8 @@ returns-then-is_some c = λ call.
     let has = rw (← c.self.view_is) at c.in-Some.ensures in
     let u = current_is s c.args.task _ (sym has) in
     let process = owner_process t.tasks c.args.task c.unwrap-process.result u.owner u.is c.unwrap-process.ensures c.process_of.ensures in
-    let idle = ap (broadcast_within t.broadcasts) (sym process) ∙ none_open _ (broadcast_within t.broadcasts c.unwrap-process.result) c.in_default-open_in.ensures.number in
+    let idle = ap (broadcast_within t.broadcasts) (sym process)
+    ∙ none_open _ (broadcast_within t.broadcasts c.unwrap-process.result) c.in_default-open_in.ensures.number in
     let there = some_open _ (broadcast_under t.broadcasts c.args.line) c.caller_of.ensures (sym c.is_some.ensures ∙ c.if-is_some.true) in
     rw (← c.self.view_is) (begin_exists s c.args.line c.args.task call _ (sym has) u.owner u.is idle there)
 
@@ -50,7 +51,8 @@ returns-in-Some-overridden c = λ call.
     let has = rw (← c.self.view_is) at c.in-Some.ensures in
     let u = current_is s c.args.task _ (sym has) in
     let process = owner_process t.tasks c.args.task c.unwrap-process.result u.owner u.is c.unwrap-process.ensures c.process_of.ensures in
-    let idle = ap (broadcast_within t.broadcasts) (sym process) ∙ none_open _ (broadcast_within t.broadcasts c.unwrap-process.result) c.in_default-open_in.ensures.number in
+    let idle = ap (broadcast_within t.broadcasts) (sym process)
+    ∙ none_open _ (broadcast_within t.broadcasts c.unwrap-process.result) c.in_default-open_in.ensures.number in
     let new =
     none_open _ (broadcast_under t.broadcasts c.args.line)
     (sym (none_by_test c.caller_of.result c.is_some.result c.is_some.ensures c.if-is_some.false) ∙ c.caller_of.ensures) in
@@ -66,7 +68,8 @@ returns c =
     let has = rw (← c.self.view_is) at c.in-Some.ensures in
     let u = current_is s c.args.task _ (sym has) in
     let process = owner_process t.tasks c.args.task c.unwrap-process.result u.owner u.is c.unwrap-process.ensures c.process_of.ensures in
-    let idle = ap (broadcast_within t.broadcasts) (sym process) ∙ none_open _ (broadcast_within t.broadcasts c.unwrap-process.result) c.in_default-open_in.ensures.number in
+    let idle = ap (broadcast_within t.broadcasts) (sym process)
+    ∙ none_open _ (broadcast_within t.broadcasts c.unwrap-process.result) c.in_default-open_in.ensures.number in
     let new =
     none_open _ (broadcast_under t.broadcasts c.args.line)
     (sym (none_by_test c.caller_of.result c.is_some.result c.is_some.ensures c.if-is_some.false) ∙ c.caller_of.ensures) in

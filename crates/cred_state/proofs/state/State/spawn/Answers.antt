@@ -44,7 +44,8 @@ invariant_of-self c = rw c.in_err-reserve.ensures.err c.self.invariant
 
 pub invariant_of-self-in_err-spawn_in : goal.invariant_of-self-in_err-spawn_in
 invariant_of-self-in_err-spawn_in c =
-    rw (c.in_err-spawn_in.ensures.no_tasks, c.in_err-spawn_in.ensures.no_broadcasts) (kept_spare c.self.invariant.0 c.in_ok-reserve.ensures.ok, c.self.invariant.1)
+    rw (c.in_err-spawn_in.ensures.no_tasks, c.in_err-spawn_in.ensures.no_broadcasts)
+    (kept_spare c.self.invariant.0 c.in_ok-reserve.ensures.ok, c.self.invariant.1)
 
 pub invariant_of-self-2 : goal.invariant_of-self-2
 invariant_of-self-2 c =

@@ -1,5 +1,5 @@
 use Rattle.std.proofs.Common.{◌≡◌, Some, arith, sym, ap, ◌∙◌}
-use Rattle.cred_turn.specs.declared.view.View.TheVariants.{Roll}
+use Rattle.cred_turn.specs.declared.view.TurnView.TheVariants.{Roll}
 use Rattle.cred_turn.specs.Rule.{rows_of, lent_of}
 use Rattle.cred_turn.proofs.Steps.{Held}
 use Rattle.cred_turn.proofs.Seats.{held, returns_as, learns_as, came_back}

@@ -1,6 +1,6 @@
 use Rattle.std.proofs.Common.{◌∙◌}
 use Rattle.cred_script.proofs.FileMap.{place_by_name}
-use Rattle.cred_script.proofs.files.Files.place_of.Goals as goal
+use Rattle.cred_script.proofs.files.DeclaredFiles.place_of.Goals as goal
 
 pub returns-in_err-get_index_of-clause-place : goal.returns-in_err-get_index_of-clause-place
 returns-in_err-get_index_of-clause-place c =

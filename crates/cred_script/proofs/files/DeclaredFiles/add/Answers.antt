@@ -1,5 +1,5 @@
 use Rattle.cred_script.proofs.FileMap.{added}
-use Rattle.cred_script.proofs.files.Files.add.Goals as goal
+use Rattle.cred_script.proofs.files.DeclaredFiles.add.Goals as goal
 
 pub returns-clause-ok : goal.returns-clause-ok
 returns-clause-ok c =

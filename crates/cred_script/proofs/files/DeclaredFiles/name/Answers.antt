@@ -1,6 +1,6 @@
 use Rattle.std.proofs.Common.{sym}
 use Rattle.cred_script.proofs.FileMap.{own_place}
-use Rattle.cred_script.proofs.files.Files.name.Goals as goal
+use Rattle.cred_script.proofs.files.DeclaredFiles.name.Goals as goal
 
 pub returns-clause-own : goal.returns-clause-own
 returns-clause-own c =
