@@ -29,7 +29,7 @@ fn sets_in(text: &[u8]) -> Result<Sets, usize>
     reader.sets_at_end().ok_or(text.len())
 }
 
-/// What these sets are for a file, of which an effective set is a flag.
+/// The attribute with these sets. Its effective set is a flag.
 fn caps_of(sets: &Sets) -> Result<FileCaps, TextRefusal>
     ensures { result ≡ attribute_or_mixed sets.now }
 {

@@ -204,7 +204,7 @@ pub enum Event {
         file: u32,
     },
     /// The task makes an id call for itself alone, which no other thread of its process will
-    /// follow: the system call without its C library (nptl(7)).
+    /// follow: the system call without its wrapper in the C library (nptl(7)).
     Raw {
         task: u32,
         call: IdCall,

@@ -8,7 +8,7 @@ ghost use Rattle.cred_laws.specs.Execve.{ExecvesAreByTheRule};
 ///
 /// It asks for a sound state in which each prepared credential is what its change makes of its
 /// base, as every journal leads to. It does not say that the change was the label's only one: an
-/// earlier one is overwritten. How the file stood when the label was changed is said of journals.
+/// earlier one is overwritten. `journals_are_lawful` says how the file stood at that change.
 pub fn execves_are_by_the_rule()
     ensures { ExecvesAreByTheRule }
 {}

@@ -23,7 +23,7 @@ impl From<NoMemory> for Refusal {
     }
 }
 
-/// Why a rule refuses a call. A rule takes no memory, so it has no such answer.
+/// Why a rule refuses a call. A rule takes no memory, and can't run out of it.
 #[derive(Clone, Copy, PartialEq, Eq, Debug)]
 pub enum Denial {
     /// EPERM: the caller may not do this.

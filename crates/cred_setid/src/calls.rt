@@ -64,7 +64,7 @@ pub fn apply_parts(
     decide(alloc, own, call)
 }
 
-/// The same, said of whatever credential has these parts.
+/// The same, for each credential that has these parts.
 #[inline(always)]
 fn decide(alloc: Global, own: &mut IdParts, call: &IdCall) -> Result<Option<Groups>, Refusal>
     ensures made { (c : Credential) →
