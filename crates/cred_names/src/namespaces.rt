@@ -94,7 +94,7 @@ impl Namespaces {
         }
     }
 
-    /// One namespace more, with its root id and its parent, which is declared.
+    /// Adds a namespace, with its root id and its parent, which is declared.
     ///
     /// # Errors
     ///
