@@ -1,7 +1,7 @@
 //! The tables of holds and of prepared labels, and what changes several tables of the state at
 //! once. Read it as part of `cred_state`.
 //!
-//! It says too where the sealed credentials stand in the shared words.
+//! It also says where the sealed credentials stand in the shared words.
 #![tactic(auto)]
 
 mod casts;

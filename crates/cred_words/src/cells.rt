@@ -126,7 +126,7 @@ fn word_count() -> usize
     1 + limits::SLOTS * WORDS
 }
 
-/// So many zeros.
+/// `n` zeros.
 fn zeros(alloc: Global, n: usize) -> Result<Vec<u64>, AllocError>
     ensures { IfOk result (λ v. v.items ≡ replicate n 0) }
 {
@@ -287,7 +287,7 @@ fn load_from(cells: &Cells, seat: &mut Seat<(), View>, slot: u32, i: usize) -> u
     shared.load::<Reads>(seat, place_of(slot, i))
 }
 
-/// Reads the word `i` of the slot that is held. It waits for nobody.
+/// Loads the word `i` of the slot that is held. It waits for nobody.
 pub fn load_word(cells: &Cells, hold: &mut Hold, slot: u32, i: usize) -> u64
     requires own { hold.old.id ≡ cells.now }
     requires slot { slot ≡ hold.old.token.slot }
@@ -298,7 +298,7 @@ pub fn load_word(cells: &Cells, hold: &mut Hold, slot: u32, i: usize) -> u64
     load_from(cells, &mut hold.seat, slot, i)
 }
 
-/// Reads the word `i` of the slot that is written. It waits for nobody.
+/// Loads the word `i` of the slot that is written. It waits for nobody.
 pub fn load_own_word(cells: &Cells, writer: &mut Writer, slot: u32, i: usize) -> u64
     requires own { writer.old.id ≡ cells.now }
     requires slot { slot ≡ writer.old.token.slot }
@@ -309,7 +309,7 @@ pub fn load_own_word(cells: &Cells, writer: &mut Writer, slot: u32, i: usize) ->
     load_from(cells, &mut writer.seat, slot, i)
 }
 
-/// Puts the word `i` of the slot that is written. It waits for nobody.
+/// Stores the word `i` of the slot that is written. It waits for nobody.
 pub fn store_word(cells: &Cells, writer: &mut Writer, slot: u32, i: usize, word: u64)
     requires own { writer.old.id ≡ cells.now }
     requires slot { slot ≡ writer.old.token.slot }
@@ -323,8 +323,8 @@ pub fn store_word(cells: &Cells, writer: &mut Writer, slot: u32, i: usize, word:
     shared.store::<Puts>(seat, place_of(slot, i), word);
 }
 
-/// Puts the word `i` of the slot that is written, unless it stands there already: a load costs less
-/// than a store that is seen by all threads in one order. It waits for nobody.
+/// Stores the word `i` of the slot that is written, unless it stands there already: a load costs
+/// less than a store that is seen by all threads in one order. It waits for nobody.
 pub fn settle_word(cells: &Cells, writer: &mut Writer, slot: u32, i: usize, word: u64)
     requires own { writer.old.id ≡ cells.now }
     requires slot { slot ≡ writer.old.token.slot }

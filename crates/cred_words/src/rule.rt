@@ -82,7 +82,7 @@ impl<O: Order> Play<(), View> for Learns<O> {
     ghost then = { λ _ v _ w. LearnedToken O.put v.0 w.0 × (w.1 ≡ v.1) };
 }
 
-/// Reads a word of a slot that is held.
+/// Loads a word of a slot that is held or written.
 pub struct Reads;
 
 impl Play<(), View> for Reads {
@@ -92,7 +92,7 @@ impl Play<(), View> for Reads {
     ghost then = { λ step v n w. (w.0 ≡ v.0) × ReadAt step.word v.0 n × (w.1 ≡ v.1) };
 }
 
-/// Puts a word of a slot that is written.
+/// Stores a word of a slot that is written.
 pub struct Puts;
 
 impl Play<(), View> for Puts {

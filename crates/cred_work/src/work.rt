@@ -9,7 +9,7 @@ use cred_record::{FileInfo, IdList};
 use std::alloc::Global;
 use std::marker::Model;
 
-/// All of a work, which is large, or of what is asked for, for which nothing is lent.
+/// The fields of a work, which are large, or of an `Asked`, for which nothing is lent.
 #[derive(Drop)]
 pub(crate) struct Parts {
     pub(crate) line: u32,
@@ -38,8 +38,8 @@ impl Model for Asked {
     } };
 }
 
-/// Written out, so that it is proved here alone: of a derived one, each crate above that drops it
-/// proves all parts anew.
+/// Written out, so that it is proved here alone: with a derived one, each crate above that drops it
+/// would prove all parts again.
 impl Drop for Asked {
     fn drop(self) {
         let Asked { parts } = self;

@@ -244,7 +244,7 @@ impl State {
         }
     }
 
-    /// What a question is answered, where this was told of the credential that its label holds.
+    /// The answer to a question: `told`, which was decided on the credential that its label holds.
     pub(crate) fn enter_ask(&self, label: u32, told: Answer) -> Answer
         ensures { (query : Asked)
             → IfSome (held_by self.now.state label) (λ held.
