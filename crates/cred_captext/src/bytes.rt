@@ -140,7 +140,7 @@ impl Reader {
         self.operated(list, byte)
     }
 
-    /// One byte more of a name.
+    /// One more byte of a name.
     fn longer_name(&self, list: CapSet, prefix: &Prefix, byte: u8) -> Option<Reader>
         ensures { result ≡ machine.longer_name self.now.sets list (prefix.now ++ byte ∷ []) }
     {

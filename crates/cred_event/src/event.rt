@@ -11,8 +11,8 @@ pub enum Side {
     Objective,
 }
 
-/// Which of its ids, and which of its capability sets, a task asks by that wants to look into
-/// another (ptrace(2), "Ptrace access mode checking").
+/// Which of its ids, and which of its capability sets, a task asks by to look into another
+/// (ptrace(2), "Ptrace access mode checking").
 #[derive(Clone, Copy, PartialEq, Eq, Debug)]
 pub enum Mode {
     /// Its filesystem ids and its effective set: PTRACE_MODE_FSCREDS, as for `/proc/PID/exe`.

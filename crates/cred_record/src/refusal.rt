@@ -6,7 +6,7 @@ use cred_ids::NoMemory;
 pub enum Refusal {
     /// EPERM: the caller may not do this.
     Perm,
-    /// EINVAL: an argument is none that the call takes.
+    /// EINVAL: the call takes no such argument.
     Invalid,
     /// Memory ran out.
     Memory,
@@ -28,7 +28,7 @@ impl From<NoMemory> for Refusal {
 pub enum Denial {
     /// EPERM: the caller may not do this.
     Perm,
-    /// EINVAL: an argument is none that the call takes.
+    /// EINVAL: the call takes no such argument.
     Invalid,
 }
 

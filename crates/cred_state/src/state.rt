@@ -188,7 +188,7 @@ impl State {
         }
     }
 
-    /// Makes any event, as `step` does, which makes those of most lines by itself.
+    /// Makes any event. `step` makes the most frequent ones without it.
     ///
     /// # Errors
     ///

@@ -153,7 +153,7 @@ pub fn may_open<P: Pause>(
     Ok(may_by(&uid, &gid, &groups, effective, file, want))
 }
 
-/// The answer to the question whether capability n is in the set: a number of none is refused.
+/// The answer to the question whether capability n is in the set: a number above 40 is refused.
 fn flag(set: CapSet, n: u32) -> Answer
     ensures { result ≡ flag (read_in set n) }
 {
