@@ -15,7 +15,7 @@ ghost use Rattle.cred_sound.specs.Sound.{IsSound};
 ghost use Rattle.cred_tables.specs.Kept.{cred_under, seen_in, AreInPlace, IsInUse};
 ghost use Rattle.cred_tables.specs.Out.{AreHome, AreOut};
 
-mod casts;
+mod broadcasts;
 mod decides;
 mod enters;
 mod file_calls;
