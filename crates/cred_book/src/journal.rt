@@ -18,8 +18,8 @@ pub struct Journal {
 /// How many entries a line makes in most scripts, or fewer.
 const MOSTLY: usize = 2;
 
-/// No entries yet, with room for those of most scripts: a list that has to grow is moved, and each
-/// page of its new place costs the kernel a fault.
+/// An empty list, with room for the entries of most scripts: a list that has to grow is moved, and
+/// each page that it moves to costs a page fault.
 ///
 /// # Errors
 ///
