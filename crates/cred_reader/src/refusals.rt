@@ -26,7 +26,7 @@ fn one_word(word: &[u8]) -> Option<Answer>
     None
 }
 
-/// What a number that stands already is the number of, by its letter.
+/// What kind of thing exists already, by its letter.
 fn what_of(byte: u8) -> Option<Named>
     ensures { result ≡ spec.what_of byte }
 {
@@ -40,7 +40,7 @@ fn what_of(byte: u8) -> Option<Named>
     }
 }
 
-/// What stands already.
+/// What exists already.
 #[tactic(auto, unfolding(crate::specs::Answers::exists_of))]
 fn exists_of(text: &[u8]) -> Result<Answer, Reason>
     ensures { Says (λ answer. answer) result (spec.exists_of text.now) }

@@ -41,7 +41,7 @@ pub(crate) fn write_digits(digits: &mut [u8; MAX_DIGITS], number: u64) -> usize
 }
 
 /// Writes a space, and the set in lower-case hexadecimal. Most sets of a report are empty or full:
-/// those are words, which take no division.
+/// those are written as words, without a division.
 pub fn prepend_set(out: &mut Pen, set: CapSet)
     requires { SET ≤ out.old.room }
     ensures text { out.new.text ≡ set_text set ++ out.old.text }

@@ -34,7 +34,7 @@ fn prepend_name(out: &mut Pen, name: &str) -> Result<(), NoMemory>
     Ok(())
 }
 
-/// Writes the letters of what is wanted.
+/// Writes the letters of the permissions that are wanted.
 pub(crate) fn prepend_letters(out: &mut Pen, want: Want)
     requires { LETTERS ≤ out.old.room }
     ensures text { out.new.text ≡ want_text want ++ out.old.text }
