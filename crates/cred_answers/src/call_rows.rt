@@ -81,7 +81,7 @@ pub(crate) fn raw_row(call: &IdCall, answer: &Answer) -> bool
     }
 }
 
-/// Whether the change takes no such number.
+/// Whether the change can't take the number.
 fn is_wrong(call: AdjCall) -> bool
     ensures { result ≡ spec.is_wrong call }
 {

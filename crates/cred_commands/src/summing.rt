@@ -25,7 +25,7 @@ pub fn run_gen<K: Sink>(alloc: Global, n: u32, sink: &mut K) -> Status
     tell_said(sink, say(alloc, n))
 }
 
-/// What is said of the script.
+/// The text of the script's summary, with its status.
 fn say(alloc: Global, n: u32) -> Result<Said, NoMemory>
     requires { IsCount n }
     ensures { IfOk result (λ said. SaysSummary n said.status said.text.items) }
@@ -36,8 +36,8 @@ fn say(alloc: Global, n: u32) -> Result<Said, NoMemory>
     Ok(Said::of(Status::Done, summary_text(alloc, told?)?))
 }
 
-/// What is told of the run in which all lines of the script run whole and in order, on this state,
-/// in which nothing has run. No journal is kept.
+/// The summary of the run in which all lines of the script run whole and in order, on this state,
+/// before its first event. No journal is kept.
 fn tell_lines(
     alloc: Global,
     script: &Script,
@@ -71,7 +71,7 @@ fn tell_in_order(alloc: Global, script: &Script) -> Result<Summary, NoMemory>
     told
 }
 
-/// The text that tells a summary.
+/// The text of a summary.
 fn summary_text(alloc: Global, told: Summary) -> Result<String, NoMemory>
     ensures { IfOk result (λ text. string_bytes text ≡ spec.summary_text told) }
 {

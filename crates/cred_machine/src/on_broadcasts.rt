@@ -142,7 +142,7 @@ impl State {
     /// The least thread that waits in the broadcast makes the call of it on its own current
     /// credential. `NoBroadcast` leaves the state. Where the call is refused, or where no slot is
     /// free even after a sweep, all threads of the process end and the broadcast is dropped. `room`
-    /// is where the credential goes that it makes.
+    /// is the slot for the credential that it makes.
     pub(crate) fn act(&mut self, line: u32, room: Room) -> Result<Answer, NoMemory>
         requires sound { IsSound self.old }
         requires slot { room.slot ≡ free self.old }
@@ -169,8 +169,8 @@ impl State {
         let own = owner.process;
         let cred = match call_on_copy(self.alloc, current.cred, &broadcast.call) {
             Ok(cred) => cred,
-            // Whether a call is valid is the call's alone, and its caller has made it: what the
-            // thread lacks is the right.
+            // Whether a call is valid depends on its arguments alone, and its caller has made it:
+            // so what the thread lacks is the right.
             Err(Refusal::Perm | Refusal::Invalid) => {
                 return self.end_process(process, task, AbortCause::Perm);
             }

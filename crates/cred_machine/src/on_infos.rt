@@ -1,4 +1,4 @@
-//! The events that change a file, and the question how one stands.
+//! The events that change a file (chown(2), chmod(2), setxattr(2)), and stat(2).
 ghost use Rattle.std.specs.Prelude.{◌≡◌, true, IfOk, OnErr};
 ghost use Rattle.cred_model.specs.FileChanges.{changed_by, event_changes};
 ghost use Rattle.cred_model.specs.Like.{Gives};

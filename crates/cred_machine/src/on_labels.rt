@@ -25,6 +25,8 @@ use cred_record::copy;
 use cred_script::Script;
 
 impl State {
+    /// The label takes hold of the credential that the task acts with, or of the one that it is
+    /// acted on by. The refusals leave the state.
     pub(crate) fn take(&mut self, label: u32, task: u32, side: Side) -> Result<Answer, NoMemory>
         ensures ok { IfOk result (λ answer.
             Gives self.old (by_take self.old label task side) answer self.new) }
@@ -60,6 +62,8 @@ impl State {
         Ok(Answer::Sealed { cred: number, slot })
     }
 
+    /// The label drops its hold: the reference to its credential is given up. `NoHold` leaves the
+    /// state.
     pub(crate) fn release(&mut self, label: u32) -> Result<Answer, NoMemory>
         ensures ok { IfOk result (λ answer.
             Gives self.old (by_release self.old label) answer self.new) }

@@ -14,8 +14,8 @@ use cred_plain::{Ending, Numbered, Task};
 use cred_record::first;
 
 impl State {
-    /// A first task is created, with its first credential, in a namespace where root has the user
-    /// id `root`. `Busy`, `Exists` and `TooMany` leave the state; `TableFull` leaves it swept.
+    /// Creates a first task, with its first credential, in a namespace where root has the user id
+    /// `root`. `Busy`, `Exists` and `TooMany` leave the state; `TableFull` leaves it swept.
     pub(crate) fn init(
         &mut self,
         number: u32,

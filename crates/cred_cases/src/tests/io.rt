@@ -1,3 +1,4 @@
+//! Sources and sinks: limits of a read, and calls that fail in mid-stream.
 use cred_ids::NoMemory;
 use cred_io::{
     Bytes, Failed, MemorySink, MemorySource, ReadRefusal, Sink, SinkRefusal, Source, StdSink,
