@@ -31,14 +31,14 @@ fn say(alloc: Global, n: u32) -> Result<Said, NoMemory>
     ensures { IfOk result (λ said. SaysSummary n said.status said.text.items) }
 {
     let script = generate(alloc, n)?;
-    let told = tell_in_order(alloc, &script);
+    let summary = sum_in_order(alloc, &script);
     drop(script);
-    Ok(Said::of(Status::Done, summary_text(alloc, told?)?))
+    Ok(Said::of(Status::Done, summary_text(alloc, summary?)?))
 }
 
 /// The summary of the run in which all lines of the script run whole and in order, on this state,
 /// before its first event. No journal is kept.
-fn tell_lines(
+fn sum_lines(
     alloc: Global,
     script: &Script,
     state: &mut State,
@@ -49,26 +49,26 @@ fn tell_lines(
     requires opening { state.old.state ≡ opening script.now }
     ensures { IfOk result (λ told. TellsSequence script.now told) }
 {
-    let mut told = Summary::new(script);
+    let mut summary = Summary::new(script);
     let mut entries = Vec::new(alloc);
     let mut past = 0;
     'lines: while past < script.lines() {
         run_line(state, cells, script, past, &mut entries)?;
-        told.add(&entries);
+        summary.add(&entries);
         entries.clear();
         past += 1;
     }
-    Ok(told)
+    Ok(summary)
 }
 
 /// The same, on a state of its own: to own one is expensive to prove, so nothing else is done here.
-fn tell_in_order(alloc: Global, script: &Script) -> Result<Summary, NoMemory>
+fn sum_in_order(alloc: Global, script: &Script) -> Result<Summary, NoMemory>
     ensures { IfOk result (λ told. TellsSequence script.now told) }
 {
     let (cells, mut state) = State::new(alloc, script)?;
-    let told = tell_lines(alloc, script, &mut state, &cells);
+    let summary = sum_lines(alloc, script, &mut state, &cells);
     drop(state);
-    told
+    summary
 }
 
 /// The text of a summary.
