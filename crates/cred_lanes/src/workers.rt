@@ -43,7 +43,7 @@ pub fn drive<K: Name + Send + Sync, G: Gate + Sync, R: Threads + Wait + Sync>(
         &|turn: Turn<K>| -> Result<Turn<K>, NoMemory>
             requires { turn.numbers.out ≡ None }
             ensures { IfOk result (Finished K.script turn) }
-        { work(rt, alloc, kernel, gate, turn) },
+        { run_lane(rt, alloc, kernel, gate, turn) },
     )?;
     all_ended(alloc, done)
 }
@@ -56,7 +56,7 @@ const PART: u64 = 16;
 
 /// Makes the events of the turn's lane, one after another, until the lane has ended. What waits for
 /// a decision is decided without the lock.
-fn work<K: Name, G: Gate, R: Wait>(
+fn run_lane<K: Name, G: Gate, R: Wait>(
     rt: &R,
     alloc: Global,
     kernel: &Kernel<K>,
