@@ -20,6 +20,10 @@ pub(crate) fn makes_events(content: &Content) -> bool
 }
 
 /// The event of a stage, or none where a line with this content has no such stage.
+///
+/// # Errors
+///
+/// `NoMemory` where the list of a `setgroups`, or the bytes of an attribute, could not be copied.
 #[inline(always)]
 pub(crate) fn event_in(
     line: u32,

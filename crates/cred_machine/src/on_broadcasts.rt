@@ -43,6 +43,10 @@ impl State {
     /// A task makes an id call. The other threads of its process then wait for their step; where it
     /// has none, the broadcast is completed at once. `TableFull` leaves the state swept, and the
     /// other refusals leave it. Which slots are live may be known before it and after it.
+    ///
+    /// # Errors
+    ///
+    /// `NoMemory` if an allocation fails: the state is as it was.
     pub(crate) fn begin(
         &mut self,
         live: &mut Option<Marks>,
@@ -143,6 +147,10 @@ impl State {
     /// credential. `NoBroadcast` leaves the state. Where the call is refused, or where no slot is
     /// free even after a sweep, all threads of the process end and the broadcast is dropped. `room`
     /// is the slot for the credential that it makes.
+    ///
+    /// # Errors
+    ///
+    /// `NoMemory` if an allocation fails: the state is as it was.
     pub(crate) fn act(&mut self, line: u32, room: Room) -> Result<Answer, NoMemory>
         requires sound { IsSound self.old }
         requires slot { room.slot ≡ free self.old }
@@ -194,6 +202,10 @@ impl State {
 
     /// A task's current credential is replaced by this one, which is sealed in the slot, after a
     /// sweep if that needs one. The old one's number is given up.
+    ///
+    /// # Errors
+    ///
+    /// `NoMemory` if an allocation fails: the state is as it was.
     pub(crate) fn replace(
         &mut self,
         task: u32,

@@ -35,6 +35,10 @@ fn changed(event: &Event, cred: &Cred, file: &FileInfo) -> Result<FileInfo, Refu
 impl State {
     /// The file is from then on what the event's call makes of it, by the credential that the hold
     /// has (chown(2), chmod(2), setxattr(2)). The refusals leave the state.
+    ///
+    /// # Errors
+    ///
+    /// `NoMemory` if an allocation fails: the state is as it was.
     pub(crate) fn change_file(
         &mut self,
         hold: u32,

@@ -16,6 +16,10 @@ use cred_record::first;
 impl State {
     /// Creates a first task, with its first credential, in a namespace where root has the user id
     /// `root`. `Busy`, `Exists` and `TooMany` leave the state; `TableFull` leaves it swept.
+    ///
+    /// # Errors
+    ///
+    /// `NoMemory` if an allocation fails: the state is as it was.
     pub(crate) fn init(
         &mut self,
         number: u32,
@@ -58,6 +62,10 @@ impl State {
 
     /// A task creates a thread of its process (clone(2) with CLONE_THREAD), which shares its
     /// current credential, and waits where its creator waits. The refusals leave the state.
+    ///
+    /// # Errors
+    ///
+    /// `NoMemory` if an allocation fails: the state is as it was.
     pub(crate) fn spawn(&mut self, task: u32, child: u32) -> Result<Answer, NoMemory>
         requires { IsSound self.old }
         ensures ok { IfOk result (λ answer.
@@ -96,6 +104,10 @@ impl State {
 
     /// A task creates a process (fork(2)), whose one thread shares its current credential. It is
     /// dumpable where the task's is. The refusals leave the state.
+    ///
+    /// # Errors
+    ///
+    /// `NoMemory` if an allocation fails: the state is as it was.
     pub(crate) fn fork(&mut self, task: u32, child: u32, process: u32) -> Result<Answer, NoMemory>
         requires sound { IsSound self.old }
         ensures ok { IfOk result (λ answer.
@@ -138,6 +150,10 @@ impl State {
     /// A task ends, and what it referred to is given up. It waits in no broadcast any more; its
     /// holds and prepared labels stay. `NoTask`, `Busy`, and `Overridden` while it acts with
     /// another credential than its current one, leave the state.
+    ///
+    /// # Errors
+    ///
+    /// `NoMemory` if an allocation fails: the state is as it was.
     pub(crate) fn exit(&mut self, task: u32) -> Result<Answer, NoMemory>
         ensures ok { IfOk result (λ answer.
             Gives self.old (by_exit self.old task) answer self.new) }

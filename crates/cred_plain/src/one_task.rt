@@ -113,6 +113,10 @@ impl Task {
     }
 
     /// Appends the numbers that it refers to.
+    ///
+    /// # Errors
+    ///
+    /// `NoMemory` if the list cannot grow.
     pub(crate) fn refer(&self, numbers: &mut Vec<u64>) -> Result<(), NoMemory>
         ensures { OnOk result (numbers.new.items ≡ numbers.old.items ++ numbers_of self.now) }
     {
@@ -130,7 +134,11 @@ impl Task {
         }
     }
 
-    /// Lets it act with another credential from now on. If an allocation fails, nothing changes.
+    /// Lets it act with another credential from now on.
+    ///
+    /// # Errors
+    ///
+    /// `NoMemory` if an allocation fails: nothing changes.
     pub(crate) fn push(&mut self, number: u64) -> Result<(), NoMemory>
         requires { length self.old.overrides < DEPTH }
         ensures ok { OnOk result

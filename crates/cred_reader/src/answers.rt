@@ -226,6 +226,10 @@ fn ok_words(alloc: Global, told: Tells, words: &[&[u8]]) -> Result<Answer, LineR
 }
 
 /// The answer to an event that asks for this.
+///
+/// # Errors
+///
+/// `Bad` with the reason where the words are no such text, and `Memory` if memory ran out.
 #[tactic(auto, unfolding(crate::specs::Answers::read_answer))]
 pub(crate) fn read_answer(
     alloc: Global,

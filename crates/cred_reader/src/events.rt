@@ -327,6 +327,10 @@ fn event_named(
 }
 
 /// The event that the words are the text of.
+///
+/// # Errors
+///
+/// `Bad` with the reason where the words are no such text, and `Memory` if memory ran out.
 #[tactic(auto, unfolding(crate::specs::Events::read_event))]
 pub(crate) fn read_event(
     alloc: Global,

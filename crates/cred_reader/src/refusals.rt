@@ -150,6 +150,10 @@ fn three_words(a: &[u8], b: &[u8], c: &[u8]) -> Result<Answer, Reason>
 }
 
 /// A refusal.
+///
+/// # Errors
+///
+/// The reason where the words are no refusal.
 #[tactic(auto, unfolding(crate::specs::Answers::read_refusal))]
 pub(crate) fn read_refusal(words: &[&[u8]]) -> Result<Answer, Reason>
     ensures { Says (λ answer. answer) result (spec.read_refusal (nows words.now)) }

@@ -144,6 +144,10 @@ fn prepend_aborted(out: &mut Pen, task: u32, cause: AbortCause)
 }
 
 /// Writes the answer.
+///
+/// # Errors
+///
+/// `NoMemory` where the buffer cannot grow. Nothing is said of what it holds then.
 // Called at one place alone, for each entry.
 #[inline(always)]
 pub(crate) fn prepend_answer(out: &mut Pen, answer: &Answer) -> Result<(), NoMemory>

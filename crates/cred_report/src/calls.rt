@@ -49,6 +49,10 @@ fn prepend_three(out: &mut Pen, word: &str, real: Arg, effective: Arg, saved: Ar
 }
 
 /// Writes the id call.
+///
+/// # Errors
+///
+/// `NoMemory` where the buffer cannot grow. Nothing is said of what it holds then.
 pub(crate) fn prepend_call(out: &mut Pen, call: &IdCall) -> Result<(), NoMemory>
     requires { BEFORE_CALL + CALL ≤ out.old.room }
     ensures text { OnOk result (out.new.text ≡ call_text call.now ++ out.old.text) }
@@ -97,6 +101,10 @@ fn prepend_adjust(out: &mut Pen, call: AdjCall)
 }
 
 /// Writes the change.
+///
+/// # Errors
+///
+/// `NoMemory` where the buffer cannot grow. Nothing is said of what it holds then.
 pub(crate) fn prepend_change(out: &mut Pen, script: &Script, change: Change) -> Result<(), NoMemory>
     requires { BEFORE_CALL + CALL ≤ out.old.room }
     ensures text { OnOk result (out.new.text ≡ change_text script.now change ++ out.old.text) }

@@ -179,6 +179,10 @@ fn prepend_open(
 }
 
 /// Writes the event.
+///
+/// # Errors
+///
+/// `NoMemory` where the buffer cannot grow. Nothing is said of what it holds then.
 // Called at one place alone, for each entry.
 #[inline(always)]
 pub(crate) fn prepend_event(out: &mut Pen, script: &Script, event: &Event) -> Result<(), NoMemory>

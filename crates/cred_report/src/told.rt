@@ -46,6 +46,10 @@ fn octal(digit: u16) -> u8
 }
 
 /// Writes `ok`, and the values after it.
+///
+/// # Errors
+///
+/// `NoMemory` where the buffer cannot grow. Nothing is said of what it holds then.
 pub(crate) fn prepend_told(out: &mut Pen, told: &Told) -> Result<(), NoMemory>
     requires { BEFORE_ANSWER + ANSWER ≤ out.old.room }
     ensures text { OnOk result (out.new.text
