@@ -6,7 +6,6 @@
 #![tactic(auto)]
 
 mod cached;
-mod flags;
 mod machine;
 mod on_broadcasts;
 mod on_files;
@@ -16,6 +15,7 @@ mod on_overrides;
 mod on_ptrace;
 mod on_raw;
 mod on_tasks;
+mod processes;
 mod slots;
 mod state;
 

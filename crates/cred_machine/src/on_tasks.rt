@@ -4,7 +4,7 @@ ghost use Rattle.cred_model.specs.Like.{Gives};
 ghost use Rattle.cred_model.specs.Step.{by_exit, by_fork, by_init, by_spawn};
 ghost use Rattle.cred_sound.specs.Sound.{IsSound};
 
-use crate::flags;
+use crate::processes;
 use crate::slots::{Room, defer_left, sweep_if};
 use crate::state::{State, overridden};
 use cred_event::{Answer, Counted, Named};
@@ -54,7 +54,7 @@ impl State {
         let cred = first(self.alloc, user, group, ns, root)?;
         let next = self.creds.next_number();
         let task = Task::first(self.alloc, number, process, next);
-        flags::enter(&mut self.tasks, &mut self.dump, task)?;
+        processes::enter(&mut self.tasks, &mut self.dump, task)?;
         sweep_if(&mut self.deferred, swept);
         self.creds.seal(cred, slot);
         Ok(Answer::Sealed { cred: next, slot })
@@ -143,7 +143,7 @@ impl State {
         }
         let dumpable = self.dump.is_dumpable(owner.process);
         let thread = Task::first(self.alloc, child, process, number);
-        flags::begin_process(&mut self.tasks, &mut self.dump, thread, dumpable)?;
+        processes::begin_process(&mut self.tasks, &mut self.dump, thread, dumpable)?;
         Ok(Answer::Sealed { cred: number, slot })
     }
 
