@@ -169,7 +169,8 @@ pub fn open_broadcast(broadcasts: &mut Vec<Cast>, broadcast: Cast) -> Result<(),
     Ok(())
 }
 
-/// Adds a new thread where its creator waits, if that does. No task waits in two broadcasts.
+/// Adds a new thread to the broadcast that its creator waits in, if there is one. No task waits in
+/// two broadcasts.
 ///
 /// # Errors
 ///
