@@ -71,7 +71,7 @@ pub record IsWorkOf (script : Script) (infos : List File) (cells : TableId) (wor
 
 -- The work is the lane's: it is one of the book's script and cells, its file is as it stands now,
 -- and its line is the one whose work is out.
-pub record IsLanes (book : Recorded) (lane : ℕ) (work : Work) : Type 0 where
+pub record IsOfLane (book : Recorded) (lane : ℕ) (work : Work) : Type 0 where
   pub of : IsWorkOf book.script (infos_in book) book.words.id work
   pub out : out_of book lane ≡ Some work.line
 

@@ -7,7 +7,7 @@ use Rattle.cred_captext.specs.declared.action.Operator.{Operator}
 use Rattle.cred_captext.specs.declared.action.Operator.TheVariants.{Reset, Raise, Lower}
 use Rattle.cred_captext.specs.declared.action.Letter.{Letter}
 use Rattle.cred_captext.specs.declared.action.Letter.TheVariants as letter
-use Rattle.cred_captext.specs.Names.{small_name}
+use Rattle.cred_captext.specs.Names.{lowercase_name}
 
 -- ---- what a text consists of
 
@@ -84,7 +84,7 @@ letter_byte letter.Permitted = 112
 abbrev pub listed_text : Listed → List ℕ
 listed_text Everything = codes "all"
 listed_text Unsaid = []
-listed_text (Named n ns) = small_name n ++ flat_map (λ m. codes "," ++ small_name m) ns
+listed_text (Named n ns) = lowercase_name n ++ flat_map (λ m. codes "," ++ lowercase_name m) ns
 
 abbrev pub action_text : Action → List ℕ
 action_text a = operator_byte a.operator ∷ map letter_byte a.letters

@@ -13,7 +13,7 @@ use Rattle.cred_captext.specs.declared.bytes.TextPlace.{TextPlace}
 use Rattle.cred_captext.specs.declared.bytes.TextPlace.TheVariants.{Start, A, Al, All, Name}
 use Rattle.cred_captext.specs.declared.bytes.TextPlace.TheVariants.{Sign, Letters}
 use Rattle.cred_captext.specs.declared.bytes.Reader.{Reader}
-use Rattle.cred_captext.specs.Names.{cap_of_small_name, begins_name}
+use Rattle.cred_captext.specs.Names.{cap_of_lowercase_name, begins_name}
 use Rattle.cred_captext.specs.Meaning.{none, after_operator, after_letter}
 
 -- ---- one byte
@@ -85,7 +85,7 @@ step_at s list Start byte =
 step_at s list A byte = word s Al byte
 step_at s list Al byte = word s All byte
 step_at s list All byte = operated s full byte
-step_at s list (Name word) byte = within_name s list word byte (cap_of_small_name word)
+step_at s list (Name word) byte = within_name s list word byte (cap_of_lowercase_name word)
 step_at s list (Sign operator) byte = lettered s list operator byte
 step_at s list (Letters operator) byte =
     if byte == 32 then Some (reader s empty Start)

@@ -2,13 +2,13 @@
 use Rattle.std.specs.Prelude.{ℕ, Bool, true, false, List, [], ◌∷◌, ◌++◌, codes}
 use Rattle.std.specs.List.{flat_map}
 use Rattle.cred_caps.specs.Caps.{Caps}
-use Rattle.cred_captext.specs.Names.{small_name}
+use Rattle.cred_captext.specs.Names.{lowercase_name}
 use Rattle.cred_captext.specs.Printed.{cap_numbers}
 
 -- names with a comma between two
 abbrev pub comma_names : List ℕ → List ℕ
 comma_names [] = []
-comma_names (n ∷ ns) = small_name n ++ flat_map (λ m. codes "," ++ small_name m) ns
+comma_names (n ∷ ns) = lowercase_name n ++ flat_map (λ m. codes "," ++ lowercase_name m) ns
 
 abbrev pub names_text : Caps → List ℕ
 names_text set = comma_names (cap_numbers set)

@@ -13,7 +13,7 @@ use Rattle.cred_book.specs.Book.{Recorded, infos_in}
 use Rattle.cred_book.specs.Counts as counts
 use Rattle.cred_book.specs.Counts.{Counts, IsOutNow, IsSetUp, decided_of, ended_of, entered_of}
 use Rattle.cred_book.specs.Cursor.{Makes}
-use Rattle.cred_book.specs.Works.{IsLanes}
+use Rattle.cred_book.specs.Works.{IsOfLane}
 use Rattle.cred_book.specs.declared.step.Step.{Step}
 use Rattle.cred_book.specs.declared.step.Step.TheVariants.{More, Ended}
 use Rattle.cred_book.specs.declared.step.Step.TheVariants as step
@@ -78,7 +78,7 @@ as_it_was before after lane None made = made
 as_it_was before after lane (Some entry) made = absurd made
 
 work_of : (before after : Recorded) (lane : ℕ) (entry : Option Entry) (work : Work) → Makes before after lane entry (step.Work work)
-    → IsUndecided work × IsLanes after lane work
+    → IsUndecided work × IsOfLane after lane work
 work_of before after lane None work made = absurd made
 work_of before after lane (Some entry) work made = (made.3, made.4)
 

@@ -9,7 +9,7 @@ use Rattle.cred_book.specs.Works.{IsWorkOf}
 use Rattle.cred_book.specs.declared.step.Step.{Step}
 use Rattle.cred_book.specs.declared.step.Step.TheVariants.{More, Ended}
 use Rattle.cred_book.specs.declared.step.Step.TheVariants as step
-use Rattle.cred_kernel.specs.Deciding.{IsDue}
+use Rattle.cred_kernel.specs.Deciding.{WasDecided}
 use Rattle.cred_kernel.specs.Turns.{Seen, LaneHasEnded}
 
 -- the turn of the same lane, which has ended
@@ -27,7 +27,7 @@ AllFinished {E} script done =
 abbrev pub IsReturn : Script → List File → TableId → Seen → Step → Type 0
 IsReturn script infos cells turn More = turn.numbers.out ≡ None
 IsReturn script infos cells turn (step.Work work) =
-    (turn.numbers.out ≡ Some work.line) × IsDue script infos cells work work
+    (turn.numbers.out ≡ Some work.line) × WasDecided script infos cells work work
 IsReturn script infos cells turn Ended = turn.numbers.out ≡ None
 
 -- How a worker leaves the lock: no work of its lane is out; or one is, and it has it; or its lane

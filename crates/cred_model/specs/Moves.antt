@@ -93,11 +93,11 @@ abbrev pub preparing : State → Prepared → State
 preparing s p = record s { prepared = s.prepared ++ p ∷ [] }
 
 -- the prepared labels, where this one was changed
-abbrev pub relabelled : ℕ → Changed → Prepared → Prepared
-relabelled label to p = if p.label == label then record p { changed = Some to } else p
+abbrev pub altered_at : ℕ → Changed → Prepared → Prepared
+altered_at label to p = if p.label == label then record p { changed = Some to } else p
 
 abbrev pub with_change : List Prepared → ℕ → Changed → List Prepared
-with_change prepared label to = map (relabelled label to) prepared
+with_change prepared label to = map (altered_at label to) prepared
 
 abbrev pub altered : State → ℕ → Changed → State
 altered s label to = record s { prepared = with_change s.prepared label to }

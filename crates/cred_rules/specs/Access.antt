@@ -87,15 +87,15 @@ may c f asked =
     capable c DAC_READ_SEARCH && read_search_passes f asked
 
 -- a sender with user id n owns the task: n is its real or its saved user id
-abbrev pub owns : ℕ → Ids4 → Bool
-owns n target = (target.real == n) || (target.saved == n)
+abbrev pub owns_task : ℕ → Ids4 → Bool
+owns_task n target = (target.real == n) || (target.saved == n)
 
 -- a task may send a signal with CAP_KILL to any other, and else where its real or its effective
 -- user id owns the target (kill(2)); within one process (`same`) it always may (Linux's
 -- kernel/signal.c)
 abbrev pub may_signal : Credential → Credential → Bool → Bool
 may_signal from to same =
-    same || capable from KILL || owns from.uid.real to.uid || owns from.uid.effective to.uid
+    same || capable from KILL || owns_task from.uid.real to.uid || owns_task from.uid.effective to.uid
 
 -- the effective set that access(2) asks by: the permitted set for root, and no capability for any
 -- other, by the real user id (access(2)); with NO_SETUID_FIXUP the task's own (Linux's

@@ -32,12 +32,12 @@ pub data NoExec : Type 0 where
 -- ---- the file
 
 -- to execute, and nothing else
-abbrev pub EXECUTE : Want
-EXECUTE = record { r = false; w = false; x = true }
+abbrev pub TO_EXECUTE : Want
+TO_EXECUTE = record { r = false; w = false; x = true }
 
 -- the file is a regular one, and the task may execute it (execve(2), EACCES)
 abbrev pub may_execute : Credential → File → Bool
-may_execute c f = not (is_directory f.kind) && may c f EXECUTE
+may_execute c f = not (is_directory f.kind) && may c f TO_EXECUTE
 
 -- the set-id bits and the attribute of the file have effect: under no_new_privs, and where the file
 -- system is mounted nosuid, they are ignored (execve(2))

@@ -29,8 +29,8 @@ abbrev pub gives_one : Arg → Arg → Bool
 gives_one owner group = is_given owner || is_given group
 
 -- the task is the file's owner
-abbrev pub owns : Credential → File → Bool
-owns c f = f.owner == c.uid.fs
+abbrev pub owns_file : Credential → File → Bool
+owns_file c f = f.owner == c.uid.fs
 
 -- the owner stays as it is
 abbrev pub keeps_owner : File → Arg → Bool
@@ -44,7 +44,7 @@ takes_group c f (Set id) = (id == f.group) || in_group c id
 -- "The owner of a file may change the group of the file to any group of which that owner is a
 -- member."
 abbrev pub may_as_owner : Credential → File → Arg → Arg → Bool
-may_as_owner c f owner group = owns c f && keeps_owner f owner && takes_group c f group
+may_as_owner c f owner group = owns_file c f && keeps_owner f owner && takes_group c f group
 
 -- "Only a privileged process (Linux: one with the CAP_CHOWN capability) may change the owner of a
 -- file." A call that gives neither changes nothing, and is no one's privilege.
@@ -88,7 +88,7 @@ chown c f owner group =
 -- be privileged (Linux: it must have the CAP_FOWNER capability)." On Linux it is the filesystem
 -- user id.
 abbrev pub may_chmod : Credential → File → Bool
-may_chmod c f = owns c f || capable c FOWNER
+may_chmod c f = owns_file c f || capable c FOWNER
 
 -- "If the calling process is not privileged (Linux: does not have the CAP_FSETID capability), and
 -- the group of the file does not match the effective group ID of the process or one of its
