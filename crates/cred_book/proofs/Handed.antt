@@ -207,7 +207,8 @@ work_course book lane work stands is =
           (work_next book lane work.line out),
     )
 
-pub course_is : (book : Recorded) (lane : ℕ) (work : Work) (course : Course) → BookStands book → IsOfLane book lane work → due_of book.cursors lane ≡ Some course
+pub course_is : (book : Recorded) (lane : ℕ) (work : Work) (course : Course) → BookStands book → IsOfLane book lane work
+    → due_of book.cursors lane ≡ Some course
     → course.line ≡ work.line
 course_is book lane work course stands is due =
     let at = (work_course book lane work stands is).1 in

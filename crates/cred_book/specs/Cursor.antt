@@ -1,4 +1,4 @@
--- A book's cursors, and the steps that they are moved on by.
+-- A book's cursors, and the steps that move them on.
 use Rattle.std.specs.Prelude.{◌≡◌, ◌≤◌, ◌==◌, ℕ, ◌+◌, [], ◌∷◌, ◌++◌, length, set, Some, None}
 use Rattle.std.specs.Prelude.{Bool, true, false, not, slice_index_or, IfSome}
 use Rattle.std.specs.declared.option.Option.{Option}

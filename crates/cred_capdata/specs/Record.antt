@@ -1,6 +1,6 @@
 -- The record that capget(2) and capset(2) take: its bytes, and what they spell (linux/capability.h,
--- `struct __user_cap_header_struct` and `struct __user_cap_data_struct`). What stands between the
--- two is a relation, which says what each bit means: no way to read bytes, and none to write them.
+-- `struct __user_cap_header_struct` and `struct __user_cap_data_struct`). `SpellsData` relates the
+-- two: it says what each bit means, and not how bytes are read or written.
 use Rattle.std.specs.Prelude.{◌≡◌, ℕ, ◌+◌, ◌<◌, ◌^◌, ◌==◌, ◌&&◌, ◌||◌, not, Bool, false}
 use Rattle.std.specs.Prelude.{IsTrue, List, Option, Some, None, length, if◌then◌else◌, nat_lt}
 use Rattle.cred_caps.specs.Numbers.{LAST}
@@ -121,8 +121,8 @@ pub record HasBytes (d : CapData) : Type 0 where
 
 -- ---- bytes that spell nothing
 
--- why bytes that spell no record do not: they are too few to have a header; else their first word
--- is no version; else they are not as many as that version has
+-- why these bytes, which spell no record, don't: they are too few to have a header; else their
+-- first word is no version; else they are not as many as that version has
 abbrev pub data_refusal_of : List ℕ → DataRefusal
 data_refusal_of bytes =
     if nat_lt (length bytes) 8 then BadLength (length bytes)

@@ -7,11 +7,11 @@ use Rattle.cred_caps.specs.Caps.{IsCap}
 use Rattle.cred_caps.specs.Names.{cap_names}
 use Rattle.std.specs.declared.option.Option.{Option}
 
--- in small letters, by number
+-- in lower case, by number
 abbrev pub lowercase_names : List (List ℕ)
 lowercase_names = map (map to_ascii_lowercase) cap_names
 
--- the name of a capability
+-- the name of capability n, in lower case
 abbrev pub lowercase_name : ℕ → List ℕ
 lowercase_name n = slice_index_or lowercase_names n []
 
@@ -27,7 +27,7 @@ begins_with name word = bytes_eq (take (length word) name) word
 abbrev pub begins_name : List ℕ → Bool
 begins_name word = list_any (λ name. begins_with name word) lowercase_names
 
--- so many bytes are a front of the name of capability n
+-- the name of capability n has a prefix of so many bytes
 pub record IsNamePrefix (n k : ℕ) : Type 0 where
   pub cap : IsCap n
   pub within : k ≤ length (lowercase_name n)

@@ -50,6 +50,6 @@ some_clauses (c ∷ cs) = record { first = c; others = cs }
 abbrev pub printed : Attribute → Clauses
 printed a = some_clauses (clauses a)
 
--- A text has no way to say that no capability is effective by a flag that is set.
+-- No text says that the effective flag is set and both sets are empty.
 abbrev pub HasText : Attribute → Type 0
 HasText a = (a.version ≡ 2) × (a.effective ≡ true → union a.perm a.inh ≢ empty)

@@ -73,7 +73,8 @@ alters event label = false
 abbrev pub has_altered : ℕ → Entry → Bool
 has_altered label entry = alters entry.event label && is_ok entry.answer
 
--- Before entry `upto` the label was changed last by entry `at`: so, and not refused.
+-- Before entry `upto` the label was changed last by entry `at`, by this change, which wasn't
+-- refused.
 pub record IsLastChange (journal : List Entry) (upto label : ℕ) (change : Change) (at : ℕ)
     : Type 0 where
   pub before : at < upto

@@ -132,6 +132,7 @@ pub record Numbered : Type 0 where
   pub cred : Credential
   pub slot : ℕ
 
+-- the sealed credential of this number, with the number
 abbrev pub numbered : List SealedCred → ℕ → Option Numbered
 numbered creds number =
     option_map (λ sealed. record { number = number; cred = sealed.cred; slot = sealed.slot })

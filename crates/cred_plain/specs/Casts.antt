@@ -1,4 +1,4 @@
--- The open broadcasts apart.
+-- What is true of the open broadcasts by themselves, without the tasks.
 use Rattle.std.specs.Prelude.{◌≡◌, ℕ, ◌<◌, true, List, [], ◌∷◌, ◌++◌, All}
 use Rattle.std.specs.List.{AllPairs}
 use Rattle.cred_ids.specs.Ordered.{in_order}
@@ -11,6 +11,6 @@ pub record AreWaitedFor (broadcasts : List Broadcast) : Type 0 where
   pub rising : All (λ b. AllPairs (λ m n. m < n) b.waiting) broadcasts
   pub some : All (λ b. is_open b ≡ true) broadcasts
 
--- a broadcast in which one more waits
+-- the broadcast, where one more thread waits
 abbrev pub joins : ℕ → Broadcast → Broadcast
 joins child broadcast = record broadcast { waiting = in_order (broadcast.waiting ++ child ∷ []) }

@@ -1,4 +1,4 @@
--- The sealed credentials, as those that are stored under their numbers and the slot of each number.
+-- The sealed credentials: those that are stored, under their numbers, and the slot of each number.
 use Rattle.std.specs.Prelude.{◌≡◌, ℕ, ◌+◌, ◌<◌, ◌==◌, All, Bool, List, [], ◌∷◌, find, map}
 use Rattle.std.specs.List.Sorted.{IsNonDecreasingBy}
 use Rattle.std.specs.Option.{option_map_or}

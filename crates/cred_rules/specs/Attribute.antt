@@ -1,8 +1,8 @@
 -- The capability attribute of a file: the bytes of its extended attribute `security.capability`,
 -- and what they spell (capabilities(7), "File capability extended attribute versioning";
--- linux/capability.h, `struct vfs_cap_data` and `struct vfs_ns_cap_data`). What stands between the
--- two is a relation, which says what each bit means: no way to read bytes, and none to write them.
--- It is a function too (`attribute_of`), by a law of `cred_filecap`.
+-- linux/capability.h, `struct vfs_cap_data` and `struct vfs_ns_cap_data`). `Spells` relates the
+-- two: it says what each bit means, and not how bytes are read or written. It is a function too
+-- (`attribute_of`), by a law of `cred_filecap`.
 use Rattle.std.specs.Prelude.{◌≡◌, ◌≢◌, ◌⊎◌, ℕ, ◌+◌, ◌*◌, ◌%◌, ◌^◌, ◌<◌, ◌==◌, ◌&&◌, ◌||◌, not}
 use Rattle.std.specs.Prelude.{Bool, false, IsTrue, List, Option, Some, None, length, slice_index}
 use Rattle.std.specs.Prelude.{if◌then◌else◌, nat_lt}
@@ -147,7 +147,7 @@ pub data Fault : Type 0 where
 abbrev pub is_version : ℕ → Bool
 is_version n = (n == 1) || (n == 2) || (n == 3)
 
--- why bytes that spell no attribute do not: they are too few to have a revision; else their
+-- why these bytes, which spell no attribute, don't: they are too few to have a revision; else their
 -- revision is no version; else they are not as many as that version has. execve(2) answers EINVAL
 -- to each (security/commoncap.c of Linux, get_vfs_caps_from_disk)
 abbrev pub fault : List ℕ → Fault

@@ -55,8 +55,8 @@ SET_GROUP_ID = 10
 abbrev pub sets_user : Credential → File → Bool
 sets_user c f = has_effect c f && has_bit f.mode SET_USER_ID
 
--- the set-group-ID bit is in force: without the execute bit of the group it says something else of
--- the file (inode(7))
+-- the set-group-ID bit is in force: without the execute bit of the group it stands for mandatory
+-- locking (inode(7))
 abbrev pub sets_group : Credential → File → Bool
 sets_group c f = has_effect c f && has_bit f.mode SET_GROUP_ID && has_bit f.mode GROUP
 
@@ -223,6 +223,7 @@ executed c f a =
     if gives_all c a then Ok (record { cred = after_exec c f a; gains = gains_of c f a })
     else Err GivesTooLittle
 
+-- the same; or, where the attribute can't be read, that refusal
 abbrev pub executed_by
     : Credential → File → Result (Option Attribute) NoExec → Result Executed NoExec
 executed_by c f (Ok a) = executed c f a

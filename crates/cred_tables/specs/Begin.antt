@@ -27,8 +27,9 @@ pub record MayBegin (s : State) (line task : ℕ) (now : Numbered) : Type 0 wher
   pub new : broadcast_of s line ≡ None
   pub own : not_overridden owner ≡ Ok tt
 
--- The broadcast of this number stands in this place, `cast`. The least thread that waits in it is
--- this one. It stands in this place among the tasks, and this is its current credential.
+-- The broadcast of this number stands in place `broadcast` among the open ones. The least thread
+-- that waits in it is this task, which stands in place `place` among the tasks, and this is its
+-- current credential.
 pub record ActsNext (s : State) (number broadcast task place : ℕ) (now : Numbered) : Type 0 where
   pub under : slice_get s.broadcasts broadcast ≡ broadcast_of s number
   pub least : Some task ≡ option_and_then (λ b. slice_get b.waiting 0) (broadcast_of s number)

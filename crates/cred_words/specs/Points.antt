@@ -1,5 +1,5 @@
 -- The rule of the shared words, as six points of what the table holds between any two steps. Word 0
--- is the guide. Slot s has the words from `place s 0` on.
+-- is the guide. Slot s has the words from `word_place s 0` on.
 use Rattle.std.specs.Prelude.{◌≡◌, ◌≢◌, ◌<◌, ℕ, List, ◌∷◌, Some, true, false, slice_get}
 use Rattle.std.specs.Prelude.{slice_index}
 use Rattle.cred_record.specs.Credential.{Credential}

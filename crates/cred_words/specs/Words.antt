@@ -83,6 +83,7 @@ pub record WordsStand (words : List ℕ) (slot : ℕ) (ws : List ℕ) : Type 0 w
   pub wide : length ws ≡ width
   pub each : (i : ℕ) → i < width → slice_index words (word_place slot i) ≡ slice_index ws i
 
+-- the loan's slot, by whether the loan is a writer's
 abbrev pub FitsAs : Bool → List Slot → Token → Type 0
 FitsAs true slots e = (ws : List ℕ) × (slice_get slots e.slot ≡ Some (slot_of ws false))
 FitsAs false slots e = slice_get slots e.slot ≡ Some (slot_of e.words true)
@@ -177,6 +178,7 @@ after_lending_token label slot writes (Master d) = Master (after_lend d label sl
 after_lending_token label slot writes (Lent t) = Lent t
 after_lending_token label slot writes Spent = Spent
 
+-- the view of the token that a lend gives
 abbrev pub lends : ℕ → ℕ → Bool → View → View
 lends label slot writes v = Lent (lent_token (ledger_of v) label slot writes)
 
