@@ -70,7 +70,7 @@ raw_row call TableFull = not (is_invalid call)
 raw_row call (Sealed cred slot) = not (is_invalid call)
 raw_row call answer = false
 
--- The number is none that the change takes.
+-- The number isn't one that the change takes.
 abbrev pub is_wrong : AdjCall → Bool
 is_wrong (Capset perm inh eff) = false
 is_wrong (BoundDrop cap) = is_no_cap cap

@@ -24,6 +24,6 @@ split words = None
 abbrev pub positionals : List (List ℕ) → Option WordsGiven
 positionals words = if list_all is_plain words then split words else None
 
--- the words, wherever they lie
+-- the words as values, where they are borrowed
 abbrev pub words_seen : Positionals → WordsGiven
 words_seen given = (given.command.now, option_map (λ word. word.now) given.operand)

@@ -29,7 +29,7 @@ pub record Begins (script : Script) (bytes : List ℕ) (count : ℕ) : Type 0 wh
 
 -- The bytes are no report of the script, and it is at this entry, counted from 1, that they go
 -- wrong: they begin with the entries before it, whatever their number, and not with as many as up
--- to it. Where a report stops too early that is the first entry that it lacks. Bytes behind the
+-- to it. Where a report stops too early that is the first entry that it lacks. Bytes after the
 -- last line feed stand for an entry that goes wrong.
 pub record IsFault (script : Script) (bytes : List ℕ) (entry : ℕ) : Type 0 where
   pub other : ¬ IsReport script bytes

@@ -60,8 +60,9 @@ MayMake script number event =
     IfSome (line_at script number) (λ line.
     (stage : Stage) × (event_in number line.content stage ≡ Some event))
 
--- A work of some line of the script, whose files stand so: its tokens are of these cells, its line
--- may make its event, and its file and its root ids are those that the event is decided by.
+-- A work of some line of the script, where these are its files as they stand: its tokens are of
+-- these cells, its line may make its event, and its file and its root ids are those that the event
+-- is decided by.
 pub record IsWorkOf (script : Script) (infos : List File) (cells : TableId) (work : Work) : Type 0
   where
     pub own : AreOf cells work.lent

@@ -106,7 +106,7 @@ data_of bytes =
     else None
 
 -- every bit that spells nothing is zero: those above the last capability. Version 1 has no high
--- words: what stands there, behind its bytes, is 0
+-- words: what stands there, after its bytes, is 0
 pub record IsCanonicalData (bytes : List ℕ) : Type 0 where
   pub eff : (i : ℕ) → LAST < 32 + i → i < 32 → has_bit (eff_word_1 bytes) i ≡ false
   pub perm : (i : ℕ) → LAST < 32 + i → i < 32 → has_bit (perm_word_1 bytes) i ≡ false

@@ -1,5 +1,6 @@
--- How a text is read: byte by byte, with what was read so far kept as a place in the grammar. The
--- laws of `Reading` say what this has to do with texts.
+-- How a text is read: byte by byte, with what was read so far kept as a place in the grammar. What
+-- a text says is defined by `Meaning` and `Reading`, without this; the calls are proved to give
+-- that.
 use Rattle.std.specs.Prelude.{ℕ, ◌==◌, List, [], ◌∷◌, ◌++◌, Some, None, if◌then◌else◌}
 use Rattle.std.specs.declared.option.Option.{Option}
 use Rattle.std.specs.Option.{option_map, option_and_then, option_or}
@@ -38,7 +39,7 @@ operator_of byte =
 abbrev pub reader : Sets → Caps → TextPlace → Reader
 reader s list place = record { sets = s; list = list; place = place }
 
--- behind an operator: `=` needs no letter
+-- after an operator: `=` needs no letter
 abbrev pub place_after : Operator → TextPlace
 place_after Reset = Letters Reset
 place_after Raise = Sign Raise
@@ -50,7 +51,7 @@ operated s list byte =
     option_map (λ operator. reader (after_operator list operator s) list (place_after operator))
     (operator_of byte)
 
--- a letter, behind this operator
+-- a letter, after this operator
 abbrev pub lettered : Sets → Caps → Operator → ℕ → Option Reader
 lettered s list operator byte =
     option_map (λ letter. reader (after_letter list operator s letter) list (Letters operator))
@@ -60,7 +61,7 @@ lettered s list operator byte =
 abbrev pub word : Sets → TextPlace → ℕ → Option Reader
 word s place byte = if byte == 108 then Some (reader s full place) else None
 
--- behind a name
+-- after a name
 abbrev pub separated : Sets → Caps → ℕ → Option Reader
 separated s list byte =
     if byte == 44 then Some (reader s list (Name [])) else operated s list byte
@@ -91,11 +92,11 @@ step_at s list (Letters operator) byte =
     if byte == 32 then Some (reader s empty Start)
     else letter_or_operator s list operator byte
 
--- behind one more byte
+-- after one more byte
 abbrev pub after_byte : Reader → ℕ → Option Reader
 after_byte r byte = step_at r.sets r.list r.place byte
 
--- behind more bytes
+-- after more bytes
 abbrev pub run : Reader → List ℕ → Option Reader
 run r [] = Some r
 run r (byte ∷ bytes) = option_and_then (λ next. run next bytes) (after_byte r byte)

@@ -13,7 +13,7 @@ comma_names (n ∷ ns) = lowercase_name n ++ flat_map (λ m. codes "," ++ lowerc
 abbrev pub names_text : Caps → List ℕ
 names_text set = comma_names (cap_numbers set)
 
--- a space behind what stands there
+-- a space after what stands there
 abbrev pub spaced : List ℕ → List ℕ
 spaced [] = []
 spaced (byte ∷ bytes) = (byte ∷ bytes) ++ codes " "
@@ -38,7 +38,7 @@ clause_with before [] effective letters = before
 clause_with before (n ∷ ns) effective letters =
     (spaced before ++ comma_names (n ∷ ns)) ++ action_with effective letters
 
--- a text and the clause of a set behind it, if the set has one
+-- a text and the clause of a set after it, if the set has one
 abbrev pub with_clause : List ℕ → Caps → Bool → List ℕ → List ℕ
 with_clause before set effective letters = clause_with before (cap_numbers set) effective letters
 

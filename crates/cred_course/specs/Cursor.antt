@@ -70,12 +70,12 @@ new_waiters (One event) (Some First) = TASKS
 new_waiters (Id task call) (Some First) = TASKS
 new_waiters content stage = 0
 
--- so it is with the line of a course
+-- the same for the line of a course
 abbrev pub new_waiters_at : Script → Course → ℕ
 new_waiters_at script course =
     option_map_or (λ line. new_waiters line.content course.stage) (line_at script course.line) 0
 
--- How many steps may be left where the cursor stands here, at most, beside those of the tasks that
+-- How many steps may be left where the cursor stands here, at most, besides those of the tasks that
 -- wait already. The step of a task that waits is not counted with its line.
 abbrev pub left_at : Script → Option Course → ℕ
 left_at script cursor =

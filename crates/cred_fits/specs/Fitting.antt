@@ -25,7 +25,7 @@ pub record EventFits (script : Script) (entry : Entry) : Type 0 where
   pub event : FitsEvent entry.event
   pub names : IsOf script entry.event
 
--- So it is with each entry of a journal so far of a script that is read from a text, if it has no
+-- This holds of each entry of a journal so far of a script that is read from a text, if it has no
 -- more lines than a script may have.
 abbrev pub EventsFit : Type 0
 EventsFit =

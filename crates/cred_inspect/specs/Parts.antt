@@ -22,7 +22,7 @@ with_line_feed line = line ++ 10 ∷ []
 abbrev pub before_report : List ℕ → List ℕ
 before_report input = concat (map with_line_feed (before_first is_report (lines_of input)))
 
--- the bytes behind that line and its LF; none where it ends the input without one
+-- the bytes after that line and its LF; none where it ends the input without one
 abbrev pub after_report : List ℕ → List ℕ
 after_report input = drop (length (before_report input ++ with_line_feed REPORT)) input
 

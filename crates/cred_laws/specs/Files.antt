@@ -20,8 +20,8 @@ use Rattle.cred_model.specs.Step.{step}
 
 -- ---- a file changes by three calls alone
 
--- Where an event leaves a file otherwise than it was, it is chown(2), chmod(2), or setxattr(2) or
--- removexattr(2) of its attribute, on that file, and isn't refused.
+-- Where an event changes a file, it is chown(2), chmod(2), or setxattr(2) or removexattr(2) of its
+-- attribute, on that file, and isn't refused.
 abbrev pub FilesChangeByCalls : Type 0
 FilesChangeByCalls =
     (script : Script) (s : State) (line : ℕ) (event : Event) (place : ℕ) (old new : File)
@@ -36,7 +36,7 @@ pub record IsStripped (file : File) : Type 0 where
   pub attr : file.attr ≡ None
   pub mode : has_any file.mode SET_USER ≡ false
 
--- so it is with the file at a place
+-- this holds of the file at a place
 abbrev pub HasStripped : List File → ℕ → Type 0
 HasStripped infos place = IfSome (slice_get infos place) IsStripped
 

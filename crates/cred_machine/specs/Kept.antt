@@ -17,7 +17,7 @@ KeepsReferred s =
     (n : ℕ) → is_among (refs s) n ≡ false
     → IfSome (slice_get s.creds n) (λ sealed. sealed.cred ≡ gone)
 
--- Whether a sweep may have dropped something, with an event that answered so: then fewer numbers
+-- Whether a sweep may have dropped something, by an event with this answer: then fewer numbers
 -- stand as given up after it than did before it, with those that it gave up itself. A call gives up
 -- one number, the thread that couldn't follow since no slot was free has swept, and no other answer
 -- says that any was given up.

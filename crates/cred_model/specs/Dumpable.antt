@@ -46,7 +46,8 @@ differs old new =
     not ((old.uid.effective == new.uid.effective) && (old.uid.fs == new.uid.fs)
     && (old.gid.effective == new.gid.effective) && (old.gid.fs == new.gid.fs))
 
--- The process of a task whose new credential differs so from its old one is dumpable no longer.
+-- The flags after a task's credential was replaced: where the old and the new one differ (`other`),
+-- its process is dumpable no longer.
 abbrev pub renewed : List ProcessFlag → ℕ → Bool → List ProcessFlag
 renewed flags process other = if other then set_flag flags process false else flags
 
@@ -62,7 +63,8 @@ flags_by (Exec file) gains flags process other =
     set_flag flags process (not other && not (is_gain gains))
 flags_by change gains flags process other = renewed flags process other
 
--- whether the task's current credential differs so from the one that is committed in its place
+-- whether the task's current credential differs in such an id from the one that is committed in its
+-- place
 abbrev pub differs_by : State → Task → Changed → Bool
 differs_by s owner last =
     option_map_or (λ old. differs old.cred last.cred) (numbered s.creds owner.current) false

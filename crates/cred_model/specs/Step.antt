@@ -407,8 +407,8 @@ by_ptrace script s from hold to target mode = do
       if may_trace own.cred other.cred same reach dumpable mode then Ok (Done, s) else Err Eperm
 
 -- A file is changed: the credential that a label holds decides by this rule, and the file is from
--- then on what the rule makes of it (chown(2), chmod(2), setxattr(2)). There always is one at the
--- place, since an event names a declared file.
+-- then on what the rule makes of it (chown(2), chmod(2), setxattr(2)). There always is a file at
+-- the place, since an event names a declared one.
 abbrev pub by_file : State → ℕ → ℕ → (Credential → File → Result File Denial)
     → Result (Answer × State) Answer
 by_file s hold place rule = do

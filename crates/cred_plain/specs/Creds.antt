@@ -56,6 +56,6 @@ sealed_of forgotten stored slots = sealed_from forgotten stored 0 slots
 abbrev pub slots_of : List SealedCred → List ℕ
 slots_of creds = map (λ sealed. sealed.slot) creds
 
--- a sealed credential with its number, wherever it lies
+-- a sealed credential with its number, as a value where it is borrowed
 abbrev pub seen_numbered : creds.Numbered → Numbered
 seen_numbered n = record { number = n.number; cred = n.cred.now; slot = n.slot }

@@ -1,4 +1,4 @@
--- The answer that words are the text of, for an event. The event says how the words behind `ok` are
+-- The answer that words are the text of, for an event. The event says how the words after `ok` are
 -- read. What tells no value isn't read: an entry is compared with its text as a whole.
 use Rattle.std.specs.Prelude.{ℕ, ◌==◌, List, [], ◌∷◌, length, codes, Result, Ok, Err, ok_or, Some}
 use Rattle.std.specs.Prelude.{None, if◌then◌else◌}
@@ -101,7 +101,7 @@ file_told (owner ∷ group ∷ words) = do
   Ok (answer.Told (told.File id.0 id.1 rest.0 rest.1))
 file_told words = Err Count
 
--- what stands behind `ok`
+-- what stands after `ok`
 unfoldable pub ok_words : Tells → List (List ℕ) → Result Answer Reason
 ok_words Nothing words = plain words
 ok_words Ids words = ids_told words
@@ -128,7 +128,7 @@ one_word word =
     else if bytes_eq word (codes "ebadf") then Some answer.Ebadf
     else None
 
--- what a number that stands already is the number of, by its letter
+-- the kind of thing that already has a number, by its letter
 abbrev pub what_of : ℕ → Option Named
 what_of byte =
     if byte == letter (codes "t") then Some named.Task
@@ -138,7 +138,7 @@ what_of byte =
     else if byte == letter (codes "k") then Some named.Broadcast
     else None
 
--- what stands already
+-- the thing that already has a number
 unfoldable pub exists_of : List ℕ → Result Answer Reason
 exists_of [] = Err Word
 exists_of (first ∷ digits) = do

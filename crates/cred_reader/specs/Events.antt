@@ -149,7 +149,7 @@ read_open files (hold ∷ name ∷ words) = do
   Ok (event.OpenFile label file word.0 word.1)
 read_open files words = Err Count
 
--- an event whose text has a label behind its first word, by its name
+-- an event whose text has a label after its first word, by its name
 unfoldable pub label_event : List NamedFile → LabelEvent → List (List ℕ) → Result Event Reason
 label_event files by_label.Take words = read_take Subjective words
 label_event files by_label.TakeReal words = read_take Objective words
@@ -168,7 +168,7 @@ label_event files by_label.Commit words =
 label_event files by_label.Abort words = one_of label_word words >>= λ label. Ok (event.Abort label)
 label_event files by_label.OpenFile words = read_open files words
 
--- an event whose text has a task behind its first word, by its name
+-- an event whose text has a task after its first word, by its name
 unfoldable pub task_event : TaskEvent → List (List ℕ) → Result Event Reason
 task_event by_task.Init words = init_of words
 task_event by_task.Signal words = signal_of words
@@ -199,7 +199,7 @@ ptrace_of (asked ∷ from ∷ hold ∷ words) = do
   Ok (event.Ptrace sender.0 sender.1 other.0 other.1 mode)
 ptrace_of words = Err Count
 
--- an event, by its name and the words behind it
+-- an event, by its name and the words after it
 unfoldable pub event_named : List NamedFile → EventName → List (List ℕ) → Result Event Reason
 event_named files (name.Label kind) words = label_event files kind words
 event_named files (name.Task kind) words = task_event kind words

@@ -90,8 +90,8 @@ may c f asked =
 abbrev pub owns_task : ℕ → Ids4 → Bool
 owns_task n target = (target.real == n) || (target.saved == n)
 
--- a task may send a signal with CAP_KILL to any other, and else where its real or its effective
--- user id owns the target (kill(2)); within one process (`same`) it always may (Linux's
+-- a task may send a signal to any other with CAP_KILL, and without it where its real or its
+-- effective user id owns the target (kill(2)); within one process (`same`) it always may (Linux's
 -- kernel/signal.c, check_kill_permission)
 abbrev pub may_signal : Credential → Credential → Bool → Bool
 may_signal from to same =

@@ -130,7 +130,7 @@ attribute_of bytes =
 
 -- every bit that spells nothing is zero: in the first word those between the effective flag and the
 -- revision, and in the high words those above the last capability. Version 1 has no high words:
--- what stands there, behind its bytes, is 0
+-- what stands there, after its bytes, is 0
 pub record IsCanonical (bytes : List ℕ) : Type 0 where
   pub flags : (i : ℕ) → 0 < i → i < 24 → has_bit (magic bytes) i ≡ false
   pub perm : (i : ℕ) → LAST < 32 + i → i < 32 → has_bit (perm_high bytes) i ≡ false

@@ -14,7 +14,7 @@ named_file entry = record { name = string_bytes entry.0; info = entry.1 }
 abbrev pub files_of : List (String Global × File) → List NamedFile
 files_of entries = map named_file entries
 
--- There are no more files than a script may declare, and no two of them have one name.
+-- There are no more files than a script may declare, and no two of them share a name.
 pub record AreFew (entries : List (String Global × File)) : Type 0 where
   pub few : length entries ≤ FILES
   pub apart : IsDistinct string_eq (keys_of entries)

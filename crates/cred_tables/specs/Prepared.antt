@@ -55,8 +55,8 @@ pub record EndsLabel (before after : List Prepared) (label base slot : ℕ) : Ty
       GivesUp before after
       (record { label = label; task = task; base = base; slot = slot; changed = changed })
 
--- This label gave up what it prepared on this base, which was changed last so, and the slot that it
--- kept.
+-- This label gave up what it prepared on this base, of which this was the last change, and the slot
+-- that it kept.
 pub record GivesUpChanged
     (before after : List Prepared) (label base slot : ℕ) (last : Changed)
     : Type 0 where

@@ -72,7 +72,7 @@ abbrev pub AllApart : List Token → Type 0
 AllApart [] = ⊤
 AllApart (e ∷ es) = AllByRecursion (Apart e) es × AllApart es
 
--- no two have one ticket
+-- no two share a ticket
 abbrev pub OwnTickets : List Token → Type 0
 OwnTickets [] = ⊤
 OwnTickets (t ∷ ts) = AllByRecursion (λ u. u.ticket ≢ t.ticket) ts × OwnTickets ts
