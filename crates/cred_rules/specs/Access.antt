@@ -95,7 +95,10 @@ owns_task n target = (target.real == n) || (target.saved == n)
 -- kernel/signal.c, check_kill_permission)
 abbrev pub may_signal : Credential → Credential → Bool → Bool
 may_signal from to same =
-    same || capable from KILL || owns_task from.uid.real to.uid || owns_task from.uid.effective to.uid
+    same ||
+    capable from KILL ||
+    owns_task from.uid.real to.uid ||
+    owns_task from.uid.effective to.uid
 
 -- the effective set that access(2) asks by: the permitted set for root, and no capability for any
 -- other, by the real user id (access(2)); with NO_SETUID_FIXUP the task's own (Linux's fs/open.c)
