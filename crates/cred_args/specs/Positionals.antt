@@ -15,6 +15,7 @@ is_plain (first ∷ rest) = not (first == 45)
 abbrev pub WordsGiven : Type 0
 WordsGiven = List ℕ × Option (List ℕ)
 
+-- one word or two
 abbrev pub split : List (List ℕ) → Option WordsGiven
 split (command ∷ []) = Some (command, None)
 split (command ∷ operand ∷ []) = Some (command, Some operand)

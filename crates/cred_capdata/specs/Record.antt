@@ -24,6 +24,7 @@ WORD_2 = 0x20071026
 abbrev pub WORD_3 : ℕ
 WORD_3 = 0x20080522
 
+-- 1, 2 or 3
 abbrev pub is_data_version : ℕ → Bool
 is_data_version version = (version == 1) || (version == 2) || (version == 3)
 
@@ -31,6 +32,7 @@ is_data_version version = (version == 1) || (version == 2) || (version == 3)
 abbrev pub word_of_version : ℕ → ℕ
 word_of_version version = if version == 1 then WORD_1 else if version == 2 then WORD_2 else WORD_3
 
+-- the word names a version
 abbrev pub is_version_word : ℕ → Bool
 is_version_word word = (word == WORD_1) || (word == WORD_2) || (word == WORD_3)
 

@@ -36,6 +36,7 @@ pub record Clauses : Type 0 where
 
 -- ---- what may stand where
 
+-- each number in the list is a capability
 abbrev pub IsListed : Listed → Type 0
 IsListed (Named n ns) = AllByRecursion IsCap (n ∷ ns)
 IsListed Everything = ⊤
@@ -70,11 +71,13 @@ AreClauses clauses = AllByRecursion IsClause clauses
 
 -- ---- how it is spelled
 
+-- `=`, `+` and `-`
 abbrev pub operator_byte : Operator → ℕ
 operator_byte Reset = 61
 operator_byte Raise = 43
 operator_byte Lower = 45
 
+-- `e`, `i` and `p`
 abbrev pub letter_byte : Letter → ℕ
 letter_byte letter.Effective = 101
 letter_byte letter.Inheritable = 105

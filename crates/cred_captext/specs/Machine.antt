@@ -27,6 +27,7 @@ letter_of byte =
     else if byte == 112 then Some letter.Permitted
     else None
 
+-- the operator that a byte is
 abbrev pub operator_of : ℕ → Option Operator
 operator_of byte =
     if byte == 61 then Some Reset
@@ -36,6 +37,7 @@ operator_of byte =
 
 -- ---- steps
 
+-- a reader of these parts
 abbrev pub reader : Sets → Caps → TextPlace → Reader
 reader s list place = record { sets = s; list = list; place = place }
 
@@ -70,14 +72,18 @@ separated s list byte =
 abbrev pub longer_name : Sets → Caps → List ℕ → Option Reader
 longer_name s list word = if begins_name word then Some (reader s list (Name word)) else None
 
+-- one more byte, after this word of a name: where the word is a whole name a comma or an operator,
+-- else the name goes on
 abbrev pub within_name : Sets → Caps → List ℕ → ℕ → Option ℕ → Option Reader
 within_name s list word byte (Some n) = separated s (with list n) byte
 within_name s list word byte None = longer_name s list (word ++ byte ∷ [])
 
+-- the operator of another action, or a letter more of this one
 abbrev pub letter_or_operator : Sets → Caps → Operator → ℕ → Option Reader
 letter_or_operator s list operator byte =
     option_or (operated s list byte) (lettered s list operator byte)
 
+-- one more byte, at this place
 abbrev pub step_at : Sets → Caps → TextPlace → ℕ → Option Reader
 step_at s list Start byte =
     if byte == 97 then Some (reader s full A)
@@ -115,6 +121,7 @@ sets_at s All = None
 sets_at s (Name word) = None
 sets_at s (Sign operator) = None
 
+-- the sets that were read, where a text may end
 abbrev pub sets_at_end : Reader → Option Sets
 sets_at_end r = sets_at r.sets r.place
 

@@ -10,6 +10,7 @@ abbrev pub comma_names : List ℕ → List ℕ
 comma_names [] = []
 comma_names (n ∷ ns) = lowercase_name n ++ flat_map (λ m. codes "," ++ lowercase_name m) ns
 
+-- the names of the capabilities of a set
 abbrev pub names_text : Caps → List ℕ
 names_text set = comma_names (cap_numbers set)
 
@@ -33,6 +34,7 @@ abbrev pub action_with : Bool → List ℕ → List ℕ
 action_with true letters = codes "=e" ++ letters
 action_with false letters = codes "=" ++ letters
 
+-- a text and the clause of these capabilities after it, if there are any
 abbrev pub clause_with : List ℕ → List ℕ → Bool → List ℕ → List ℕ
 clause_with before [] effective letters = before
 clause_with before (n ∷ ns) effective letters =

@@ -33,6 +33,7 @@ pub record Closes (before after : List OpenFile) (fd opener : ℕ) : Type 0 wher
 
 -- ---- how the open files are kept: each by its descriptor
 
+-- an entry of the map, as an open file
 abbrev pub file_as : ℕ → File → OpenFile
 file_as fd f = record { fd = fd; opener = f.opener; file = f.file }
 

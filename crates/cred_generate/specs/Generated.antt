@@ -20,6 +20,7 @@ call_by remainder =
     else if remainder == 4 then codes "t1 setfsuid 1000"
     else codes "t1 ambraise 0"
 
+-- the line of the call with this number
 abbrev pub call : ℕ → List ℕ
 call number = call_by (number % 5)
 

@@ -60,9 +60,11 @@ abbrev pub seen_if : Bool → List ℕ → Option Credential
 seen_if true ws = Some (credential_in ws)
 seen_if false ws = None
 
+-- a loan, by its words
 abbrev pub loan_seen : Token → Loan
 loan_seen t = loan t.label t.slot (seen_if (not t.writes) t.words)
 
+-- the credential of a slot, if it is sealed
 abbrev pub slot_seen : Slot → Option Credential
 slot_seen x = seen_if x.sealed x.words
 

@@ -67,6 +67,7 @@ AreFresh script turns =
 abbrev pub NoWorkIsOut : List Seen → Type 0
 NoWorkIsOut turns = (k : ℕ) → k < length turns → (turn_at turns k).numbers.out ≡ None
 
+-- all lines of all lanes have ended
 abbrev pub HaveEnded : Script → List Seen → Type 0
 HaveEnded script turns = (k : ℕ) → k < length turns → LaneHasEnded script (turn_at turns k)
 

@@ -37,6 +37,7 @@ abbrev pub by_rule : {X : Type 0} → Result X Denial → Result X Answer
 by_rule (Ok c) = Ok c
 by_rule (Err denial) = Err (refusal denial)
 
+-- the same, as what a change makes
 abbrev pub made_by_rule : Result Credential Denial → Result Made Answer
 made_by_rule (Ok c) = Ok (made answer.Done c)
 made_by_rule (Err denial) = Err (refusal denial)
@@ -47,6 +48,7 @@ exec_refusal MayNotExecute = answer.Eacces
 exec_refusal SpellsNothing = answer.Einval
 exec_refusal GivesTooLittle = answer.Eperm
 
+-- what the rule of execve gives, or the manual's error
 abbrev pub made_by_exec : Result Executed NoExec → Result Made Answer
 made_by_exec (Ok e) = Ok (record { answer = answer.Done; cred = e.cred; gains = e.gains })
 made_by_exec (Err why) = Err (exec_refusal why)

@@ -31,6 +31,7 @@ with_process_flag flags process dumpable =
 abbrev pub flagged : ℕ → Bool → ProcessFlag → ProcessFlag
 flagged process dumpable f = if f.process == process then record f { dumpable = dumpable } else f
 
+-- the flags, where the process has this one from now on
 abbrev pub set_flag : List ProcessFlag → ℕ → Bool → List ProcessFlag
 set_flag flags process dumpable = map (flagged process dumpable) flags
 

@@ -96,9 +96,11 @@ preparing s p = record s { prepared = s.prepared ++ p ∷ [] }
 abbrev pub altered_at : ℕ → Changed → Prepared → Prepared
 altered_at label to p = if p.label == label then record p { changed = Some to } else p
 
+-- the prepared labels, where this one has the change
 abbrev pub with_change : List Prepared → ℕ → Changed → List Prepared
 with_change prepared label to = map (altered_at label to) prepared
 
+-- What a label prepares was changed.
 abbrev pub altered : State → ℕ → Changed → State
 altered s label to = record s { prepared = with_change s.prepared label to }
 

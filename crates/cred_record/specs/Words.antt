@@ -104,6 +104,7 @@ low word = word % 2 ^ 32
 abbrev pub high : ℕ → ℕ
 high word = word / 2 ^ 32
 
+-- the four ids in two words
 abbrev pub ids_of : ℕ → ℕ → Ids4
 ids_of first second = record {
   real = low first;

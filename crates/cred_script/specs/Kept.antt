@@ -8,6 +8,7 @@ use Rattle.cred_ids.specs.Limits.{FILES}
 use Rattle.cred_record.specs.File.{File}
 use Rattle.cred_model.specs.Script.{NamedFile}
 
+-- an entry of the map, as a declared file
 abbrev pub named_file : String Global × File → NamedFile
 named_file entry = record { name = string_bytes entry.0; info = entry.1 }
 

@@ -18,6 +18,7 @@ prepared_as label p = record {
   changed = p.changed;
 }
 
+-- what is prepared under all labels
 abbrev pub all_prepared : List (ℕ × Preparation) → List Prepared
 all_prepared entries = map (λ entry. prepared_as entry.0 entry.1) entries
 

@@ -219,6 +219,7 @@ LearnedAs d put (Some t) w =
     × LoanFits d.slots (as_loan t) ×
     (w ≡ Master (after_back d t put))
 
+-- the same of any view: to others than the master the load reports nothing
 abbrev pub LearnedToken : Bool → View → View → Type 0
 LearnedToken put (Master d) w = LearnedAs d put d.kept w
 LearnedToken put (Lent t) w = w ≡ Lent t
