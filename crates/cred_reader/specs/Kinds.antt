@@ -7,7 +7,7 @@ use Rattle.std.specs.Option.{option_and_then}
 use Rattle.cred_spelling.specs.Spellings.{letter, number_of, long_of}
 use Rattle.cred_spelling.specs.Table.{named}
 
--- a letter, and what the rest of the word spells
+-- a letter, and what the word after it spells
 abbrev pub behind : ℕ → (List ℕ → Option ℕ) → List ℕ → Option ℕ
 behind letter spelled [] = None
 behind letter spelled (first ∷ digits) = if first == letter then spelled digits else None

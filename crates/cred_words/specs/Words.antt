@@ -226,16 +226,16 @@ LearnedToken put (Lent t) w = w ≡ Lent t
 LearnedToken put Spent w = w ≡ Spent
 
 -- what the load of a word reports
-abbrev pub ReadAt : ℕ → View → ℕ → Type 0
-ReadAt word (Master d) n = ⊤
-ReadAt word (Lent t) n =
+abbrev pub LoadsAt : ℕ → View → ℕ → Type 0
+LoadsAt word (Master d) n = ⊤
+LoadsAt word (Lent t) n =
     (i : ℕ) → i < width → word ≡ word_place t.slot i → n ≡ slice_index t.words i
-ReadAt word Spent n = ⊤
+LoadsAt word Spent n = ⊤
 
 -- what the store of a word does
-abbrev pub PutAt : ℕ → ℕ → View → View → Type 0
-PutAt word n (Master d) w = ⊤
-PutAt word n (Lent t) w =
+abbrev pub StoresAt : ℕ → ℕ → View → View → Type 0
+StoresAt word n (Master d) w = ⊤
+StoresAt word n (Lent t) w =
     (i : ℕ) → i < width → word ≡ word_place t.slot i →
     w ≡ Lent (put_words t (slice_set t.words i n))
-PutAt word n Spent w = ⊤
+StoresAt word n Spent w = ⊤

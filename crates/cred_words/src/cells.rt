@@ -11,7 +11,7 @@ ghost use Rattle.cred_words.specs.Words.{token_of};
 ghost use Rattle.cred_words.specs.declared.view.View.TheVariants.{Lent};
 ghost use Rattle.cred_words.specs.Seen.{IsSealedSlot, NoTokenIsOn};
 
-use crate::rule::{Learns, LendsHold, LendsWriter, Order, Puts, Reads, Returns, Words};
+use crate::rule::{Learns, LendsHold, LendsWriter, Loads, Order, Returns, Stores, Words};
 use crate::view::View;
 use atomic_table::{Seat, Table};
 use cred_ids::limits;
@@ -284,10 +284,10 @@ fn load_from(cells: &Cells, seat: &mut Seat<(), View>, slot: u32, i: usize) -> u
     ensures same { (seat.new.table_id ≡ seat.old.table_id) × (seat.new.me ≡ seat.old.me) }
 {
     let shared = &cells.table.shared;
-    shared.load::<Reads>(seat, place_of(slot, i))
+    shared.load::<Loads>(seat, place_of(slot, i))
 }
 
-/// Reads the word `i` of the slot that is held. It waits for nobody.
+/// Loads the word `i` of the slot that is held. It waits for nobody.
 pub fn load_word(cells: &Cells, hold: &mut Hold, slot: u32, i: usize) -> u64
     requires own { hold.old.id ≡ cells.now }
     requires slot { slot ≡ hold.old.token.slot }
@@ -298,7 +298,7 @@ pub fn load_word(cells: &Cells, hold: &mut Hold, slot: u32, i: usize) -> u64
     load_from(cells, &mut hold.seat, slot, i)
 }
 
-/// Reads the word `i` of the slot that is written. It waits for nobody.
+/// Loads the word `i` of the slot that is written. It waits for nobody.
 pub fn load_own_word(cells: &Cells, writer: &mut Writer, slot: u32, i: usize) -> u64
     requires own { writer.old.id ≡ cells.now }
     requires slot { slot ≡ writer.old.token.slot }
@@ -309,7 +309,7 @@ pub fn load_own_word(cells: &Cells, writer: &mut Writer, slot: u32, i: usize) ->
     load_from(cells, &mut writer.seat, slot, i)
 }
 
-/// Puts the word `i` of the slot that is written. It waits for nobody.
+/// Stores the word `i` of the slot that is written. It waits for nobody.
 pub fn store_word(cells: &Cells, writer: &mut Writer, slot: u32, i: usize, word: u64)
     requires own { writer.old.id ≡ cells.now }
     requires slot { slot ≡ writer.old.token.slot }
@@ -320,11 +320,11 @@ pub fn store_word(cells: &Cells, writer: &mut Writer, slot: u32, i: usize, word:
 {
     let shared = &cells.table.shared;
     let seat = &mut writer.seat;
-    shared.store::<Puts>(seat, place_of(slot, i), word);
+    shared.store::<Stores>(seat, place_of(slot, i), word);
 }
 
-/// Puts the word `i` of the slot that is written, unless it stands there already: a load costs less
-/// than a store that is seen by all threads in one order. It waits for nobody.
+/// Stores the word `i` of the slot that is written, unless it stands there already: a load costs
+/// less than a store that is seen by all threads in one order. It waits for nobody.
 pub fn settle_word(cells: &Cells, writer: &mut Writer, slot: u32, i: usize, word: u64)
     requires own { writer.old.id ≡ cells.now }
     requires slot { slot ≡ writer.old.token.slot }
