@@ -11,7 +11,8 @@ use Rattle.cred_words.specs.declared.view.Ledger.{Ledger}
 use Rattle.cred_words.specs.declared.view.View.{View}
 use Rattle.cred_words.specs.declared.view.View.TheVariants.{Master, Lent, Spent}
 use Rattle.cred_words.specs.Lists.{IsTaken}
-use Rattle.cred_words.specs.Words.{ledger_with, put_words, token_of, after_lending_token, lends, after_return_of_token, LearnedToken, LoadsAt, StoresAt, as_loan}
+use Rattle.cred_words.specs.Words.{ledger_with, put_words, token_of, after_lending_token, lends, after_return_of_token}
+use Rattle.cred_words.specs.Words.{LearnedToken, LoadsAt, StoresAt, as_loan}
 use Rattle.cred_words.specs.Words.{LoanFits, without_ticket, after_back}
 use Rattle.cred_words.specs.Seen.{IsSealedSlot, NoTokenIsOn}
 use Rattle.cred_words.proofs.Steps.{Held, Kept, lends_hold, lends_writer, returns, learns, reads, puts}
