@@ -27,7 +27,7 @@ use Rattle.cred_event.specs.declared.event.Query.{Query}
 use Rattle.cred_event.specs.declared.event.Query.TheVariants as query
 use Rattle.cred_event.specs.declared.event.Side.{Side}
 use Rattle.cred_model.specs.Answers.{flag, checked, reply}
-use Rattle.cred_model.specs.Casts.{waits_no_more, joined, with_child, without_waiter, dropped, is_open, waits_in}
+use Rattle.cred_model.specs.Broadcasts.{waits_no_more, joined, with_child, without_waiter, dropped, is_open, waits_in}
 use Rattle.cred_model.specs.Change.{Made, by_rule}
 use Rattle.cred_model.specs.Dumpable.{flags_begun, flags_committed, flag_of_value}
 use Rattle.cred_model.specs.Ends.{ended, survivors}

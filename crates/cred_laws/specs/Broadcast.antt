@@ -25,7 +25,7 @@ use Rattle.cred_model.specs.Script.{Script}
 use Rattle.cred_model.specs.State.{State, SealedCred, Task, Numbered, numbered, task_of}
 use Rattle.cred_model.specs.State.{broadcast_of}
 use Rattle.cred_model.specs.State.{broadcast_in}
-use Rattle.cred_model.specs.Casts.{waits_in}
+use Rattle.cred_model.specs.Broadcasts.{waits_in}
 use Rattle.cred_model.specs.Step.{step}
 use Rattle.cred_sound.specs.Sound.{IsSound}
 use Rattle.cred_laws.specs.Made.{AreMade}

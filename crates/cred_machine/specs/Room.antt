@@ -6,7 +6,7 @@ use Rattle.cred_event.specs.declared.answer.Answer.{Answer}
 use Rattle.cred_event.specs.declared.answer.Answer.TheVariants.{Began, Sealed}
 use Rattle.cred_model.specs.State.{State, Broadcast, task_of}
 use Rattle.cred_model.specs.Slots.{swept}
-use Rattle.cred_model.specs.Casts.{with_broadcast}
+use Rattle.cred_model.specs.Broadcasts.{with_broadcast}
 use Rattle.cred_model.specs.Dumpable.{renewed}
 use Rattle.cred_model.specs.Moves.{replaced, sealed}
 

@@ -47,8 +47,8 @@ use Rattle.cred_model.specs.State.{prepared_of}
 use Rattle.cred_model.specs.State.{numbered, credential_of, opener_of, held_by, info_of}
 use Rattle.cred_model.specs.Slots.{swept}
 use Rattle.cred_model.specs.Ends.{is_task, is_thread_of, is_beside, ended}
-use Rattle.cred_model.specs.Casts.{not_busy, others_of, with_broadcast, waits_no_more, joined}
-use Rattle.cred_model.specs.Casts.{dropped}
+use Rattle.cred_model.specs.Broadcasts.{not_busy, others_of, with_broadcast, waits_no_more, joined}
+use Rattle.cred_model.specs.Broadcasts.{dropped}
 use Rattle.cred_model.specs.Ptrace.{may_trace}
 use Rattle.cred_model.specs.Dumpable.{is_dumpable, with_process_flag, set_flag, without_flag}
 use Rattle.cred_model.specs.Dumpable.{differs}

@@ -25,7 +25,7 @@ use Rattle.cred_sound.proofs.References.{own_refs, current_stands}
 use Rattle.cred_sound.proofs.Parts.{with_left, Old, OldOrNew, grows, Changes, CredsChange, TasksChange, ListChange, PreparedChange, SameCreds, Seals, SameTasks}
 use Rattle.cred_sound.proofs.Parts.{SetsFlag, Creates, Shares, Renews, Overrides, Fewer, Stays, Adds, Removes, SamePrepared, Prepares, Alters, Ends}
 use Rattle.cred_sound.proofs.Events.{changes}
-use Rattle.cred_sound.specs.Casts.{IsUnderWay}
+use Rattle.cred_sound.specs.Broadcasts.{IsUnderWay}
 use Rattle.cred_sound.specs.Flags.{AreFlagged}
 use Rattle.cred_sound.proofs.Opened.{broadcasts_open}
 use Rattle.cred_sound.proofs.Dumpable.{flags_after}

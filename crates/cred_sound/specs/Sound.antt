@@ -6,7 +6,7 @@ use Rattle.cred_model.specs.Script.{Script}
 use Rattle.cred_model.specs.State.{State, hold_of}
 use Rattle.cred_model.specs.Journal.{replay}
 use Rattle.cred_sound.specs.Ledger.{ledger, IsOrderly}
-use Rattle.cred_sound.specs.Casts.{IsUnderWay}
+use Rattle.cred_sound.specs.Broadcasts.{IsUnderWay}
 use Rattle.cred_sound.specs.Flags.{AreFlagged}
 
 -- No two tasks share a number, no two open files a descriptor, no two holds a label, and no two

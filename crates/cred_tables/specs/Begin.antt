@@ -9,10 +9,10 @@ use Rattle.cred_event.specs.declared.answer.AbortCause.TheVariants.{Perm, Full}
 use Rattle.cred_model.specs.State.{State, Task, Broadcast, Numbered, task_of, current_of}
 use Rattle.cred_model.specs.State.{broadcast_of}
 use Rattle.cred_model.specs.State.{broadcast_in}
-use Rattle.cred_model.specs.Casts.{others_of, with_broadcast, WaitsNowhere}
+use Rattle.cred_model.specs.Broadcasts.{others_of, with_broadcast, WaitsNowhere}
 use Rattle.cred_model.specs.Ends.{is_beside}
 use Rattle.cred_model.specs.Moves.{not_overridden}
-use Rattle.cred_cast.specs.Casts.{broadcast_under, broadcast_within}
+use Rattle.cred_cast.specs.Broadcasts.{broadcast_under, broadcast_within}
 use Rattle.cred_procs.specs.Tasks.{task_in, those}
 use Rattle.cred_slots.specs.Table.{Table}
 use Rattle.cred_slots.specs.Table as table

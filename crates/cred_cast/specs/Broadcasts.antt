@@ -3,7 +3,7 @@ use Rattle.std.specs.Prelude.{◌≡◌, ◌≢◌, ℕ, ◌<◌, ◌==◌, true
 use Rattle.std.specs.declared.option.Option.{Option}
 use Rattle.std.specs.List.{AllPairs}
 use Rattle.cred_model.specs.State.{Broadcast}
-use Rattle.cred_model.specs.Casts.{is_open, SharesNone}
+use Rattle.cred_model.specs.Broadcasts.{is_open, SharesNone}
 
 -- the broadcast of this number
 abbrev pub broadcast_under : List Broadcast → ℕ → Option Broadcast

@@ -3,7 +3,7 @@ use Rattle.std.specs.Prelude.{◌≡◌, ℕ, ◌<◌, true, List, [], ◌∷◌
 use Rattle.std.specs.List.{AllPairs}
 use Rattle.cred_ids.specs.Ordered.{in_order}
 use Rattle.cred_model.specs.State.{Broadcast}
-use Rattle.cred_model.specs.Casts.{is_open, SharesNone}
+use Rattle.cred_model.specs.Broadcasts.{is_open, SharesNone}
 
 -- No task waits in two. In each somebody waits: those tasks in rising order, none of them twice.
 pub record AreWaitedFor (broadcasts : List Broadcast) : Type 0 where
