@@ -119,8 +119,8 @@ sets_of None = record { perm = empty; inh = empty; effective = false }
 abbrev pub given_by : Credential → FileSets → Caps
 given_by c s = union (meet c.inh s.inh) (meet s.perm c.bound)
 
--- a file with the effective flag gives all of its permitted set (capabilities(7), "Safety checking
--- for capability-dumb binaries"). The test is of the file's own sets, also for root
+-- a file with the effective flag has to give all of its permitted set (capabilities(7), "Safety
+-- checking for capability-dumb binaries"). The test is of the file's own sets, also for root
 -- (security/commoncap.c of Linux)
 abbrev pub gives_all : Credential → Option Attribute → Bool
 gives_all c a = not (sets_of a).effective || is_within (sets_of a).perm (given_by c (sets_of a))
