@@ -8,7 +8,7 @@ ghost use Rattle.cred_captext.specs.Names.{lowercase_name, cap_of_lowercase_name
 use cred_caps::{Cap, cap_name};
 use std::marker::Model;
 
-/// The first bytes of a capability's name in small letters, as far as they are read. Contracts see
+/// The first bytes of a capability's name in lower case, as far as they are read. Contracts see
 /// these bytes.
 #[derive(Drop, Debug)]
 pub struct Prefix {

@@ -12,7 +12,7 @@ use cred_filecap::FileCaps;
 use cred_ids::{Bytes as Text, NoMemory};
 use std::alloc::Global;
 
-/// Appends the name of a capability, in small letters.
+/// Appends the name of a capability, in lower case.
 fn append_name(out: &mut Vec<u8>, cap: Cap) -> Result<(), NoMemory>
     ensures { OnOk result (out.new.items ≡ out.old.items ++ lowercase_name cap) }
 {
