@@ -63,7 +63,7 @@ IsLaneCursor script journal lane (Some course) =
 abbrev pub LINE_EVENTS : ℕ
 LINE_EVENTS = TRY_EVENTS * TRIES + TASKS
 
--- how many more tasks may wait after a line's next event, at most: an id call lets all other
+-- how many more tasks may wait after a line's next event, at most: an id call makes all other
 -- threads of its task's process wait, and a new thread waits where its creator does
 abbrev pub new_waiters : Content → Option Stage → ℕ
 new_waiters (One event) (Some First) = TASKS

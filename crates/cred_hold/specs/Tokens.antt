@@ -69,7 +69,7 @@ abbrev pub slot_seen : Slot → Option Credential
 slot_seen x = seen_if x.sealed x.words
 
 -- the words of each slot are a credential's, sealed or not: at first they are those of a credential
--- whose numbers are all 0, and no more than whole credentials is ever put
+-- whose numbers are all 0, and nothing but whole credentials is ever put
 abbrev pub AreSlots : List Slot → Type 0
 AreSlots slots = (s : ℕ) (x : Slot) → slice_get slots s ≡ Some x → are_words x.words ≡ true
 

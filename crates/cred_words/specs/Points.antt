@@ -12,7 +12,7 @@ use Rattle.cred_words.specs.declared.view.Ledger.{Ledger}
 use Rattle.cred_words.specs.declared.view.View.{View}
 use Rattle.cred_words.specs.declared.view.View.TheVariants.{Master}
 
--- the holds' and writers' views, and the view kept aside
+-- the tokens of holds and writers, and the one kept aside
 abbrev pub tokens_of : Ledger → List View → List Token
 tokens_of d views = tokens_out_of (token_aside d.kept ∷ views)
 

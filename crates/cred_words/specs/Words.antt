@@ -50,7 +50,7 @@ tokens_out_of (Master d ∷ vs) = tokens_out_of vs
 tokens_out_of (Lent t ∷ vs) = t ∷ tokens_out_of vs
 tokens_out_of (Spent ∷ vs) = tokens_out_of vs
 
--- the view kept aside, as a view
+-- the token kept aside, as a view
 abbrev pub token_aside : Option Token → View
 token_aside None = Spent
 token_aside (Some t) = Lent t
