@@ -93,7 +93,7 @@ data_said bytes version = record {
   eff = set_in (eff_word_0 bytes) (high_in version (eff_word_1 bytes));
 }
 
--- so many bytes, with the word of this version
+-- the bytes are as many as this version has, with its word
 abbrev pub has_version_form : List ℕ → ℕ → Bool
 has_version_form bytes version =
     (length bytes == size_of version) && (version_word bytes == word_of_version version)

@@ -27,7 +27,7 @@ begins_with name word = bytes_eq (take (length word) name) word
 abbrev pub begins_name : List ℕ → Bool
 begins_name word = list_any (λ name. begins_with name word) lowercase_names
 
--- the name of capability n has a prefix of so many bytes
+-- the name of capability n has a prefix of `k` bytes
 pub record IsNamePrefix (n k : ℕ) : Type 0 where
   pub cap : IsCap n
   pub within : k ≤ length (lowercase_name n)

@@ -57,7 +57,7 @@ OneFittingList =
 abbrev pub MOST_A_LINE : ℕ
 MOST_A_LINE = 150
 
--- A journal so far has no more entries than so many for each line of its script.
+-- A journal so far has no more than MOST_A_LINE entries for each line of its script.
 abbrev pub JournalsAreShort : Type 0
 JournalsAreShort =
     (script : Script) (journal : List Entry)

@@ -1,4 +1,4 @@
--- The script that is made from a number: one task of root, and so many calls of it, five in turn,
+-- The script that is made from a number: one task of root, and as many calls of it, five in turn,
 -- the last of which is refused.
 use Rattle.std.specs.Prelude.{ℕ, ◌%◌, ◌==◌, List, [], ◌∷◌, ◌++◌, map, codes, if◌then◌else◌}
 use Rattle.std.specs.List.{flat_map, range_with_len}

@@ -78,7 +78,7 @@ abbrev pub committed_by : Change → Gains → (number slot count : ℕ) → Ans
 committed_by (Exec file) gains number slot count = Executed number slot count gains
 committed_by change gains number slot count = Sealed number slot
 
--- what a commit answers, where so many tasks end with it
+-- what a commit answers, where `count` tasks end with it
 abbrev pub commit_answer : Changed → (number slot count : ℕ) → Answer
 commit_answer last number slot count = committed_by last.change last.gains number slot count
 

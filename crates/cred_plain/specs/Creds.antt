@@ -15,7 +15,7 @@ pub record StoredCred : Type 0 where
 abbrev pub gone : Credential
 gone = first_credential 0 0 0 0
 
--- What is stored stands in the order of its numbers, all of which were sealed: so many were.
+-- What is stored stands in the order of its numbers, all of which were sealed: `count` were.
 pub record IsStored (stored : List StoredCred) (count : ℕ) : Type 0 where
   pub rising : IsNonDecreasingBy (λ s. s.number) stored
   pub sealed : All (λ s. s.number < count) stored

@@ -115,7 +115,7 @@ said bytes version root = record {
   root = root;
 }
 
--- so many bytes with this revision
+-- the bytes are `size` many, and have this revision
 abbrev pub has_form : List ℕ → (size revision : ℕ) → Bool
 has_form bytes size revision = (length bytes == size) && (revision_of bytes == revision)
 

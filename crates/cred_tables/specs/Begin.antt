@@ -61,7 +61,7 @@ pub record MayWait (tasks : List Task) (broadcasts : List Broadcast) (line task 
   pub once : AllPairs (λ a b. a ≢ b) (those (is_beside owner) tasks)
   pub nowhere : All (WaitsNowhere broadcasts) (those (is_beside owner) tasks)
 
--- The broadcast was begun, in which so many wait. Where nobody does it isn't open.
+-- The broadcast was begun, in which `left` threads wait. Where nobody does it isn't open.
 pub record HasBegun (before after : List Broadcast) (broadcast : Broadcast)
     (left : ℕ) : Type 0 where
   pub broadcasts : after ≡ with_broadcast before broadcast
