@@ -24,7 +24,7 @@ fn keeps_lock(old: SecureBits, new: SecureBits, f: Flag) -> bool
     !old.locked(f) || new.locked(f) && old.flag(f) == new.flag(f)
 }
 
-/// Whether that is so of each flag.
+/// Whether that holds for each flag.
 fn keeps_locks(old: SecureBits, new: SecureBits) -> bool
     ensures { result ≡ list_all (keeps_lock old new) FLAGS }
 {

@@ -67,7 +67,7 @@ impl FileTable {
         }
     }
 
-    /// One more, an equal file, which goes last.
+    /// Adds an equal file, as the last one.
     ///
     /// # Errors
     ///

@@ -12,7 +12,8 @@ use crate::words::{EFF, HIGH, INH, PERM, TARGET, VERSION};
 use cred_caps::CapSet;
 use cred_filecap::{SetWords, set_of, word_at};
 
-/// The set in the word at a place and the one in the second group, in version 1 in the first alone.
+/// The set whose low word stands at a place, and its high word in the second group of words.
+/// Version 1 has no second group.
 fn set_at(bytes: &[u8], version: u8, place: usize) -> CapSet
     requires low { place + 4 ≤ length bytes.now }
     requires high { version ≢ 1 → place + 16 ≤ length bytes.now }

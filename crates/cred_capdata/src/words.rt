@@ -15,5 +15,5 @@ pub const PERM: usize = 12;
 /// The inheritable set, capabilities 0 to 31.
 pub const INH: usize = 16;
 
-/// How far behind the low word of a set its high word stands.
+/// How far after the low word of a set its high word stands.
 pub const HIGH: usize = 12;

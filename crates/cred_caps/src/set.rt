@@ -43,7 +43,7 @@ impl CapSet {
         Some(CapSet { bits: Bits(bits) })
     }
 
-    /// The set of bits that are known to be one, without a look at them.
+    /// The set of bits that are known to be one, which aren't tested.
     #[inline(always)]
     pub fn known(bits: u64) -> CapSet
         requires { IsCaps bits }

@@ -12,17 +12,17 @@ use cred_caps::CapSet;
 pub enum TextPlace {
     /// Before a clause.
     Start,
-    /// Behind the `a` of the word `all`.
+    /// After the `a` of the word `all`.
     A,
-    /// Behind its `al`.
+    /// After its `al`.
     Al,
-    /// Behind the word.
+    /// After the word.
     All,
-    /// Within a name, or behind one, or behind a comma, where a name begins.
+    /// Within a name, after one, or after a comma, where a name begins.
     Name(Prefix),
-    /// Behind an operator that needs a letter.
+    /// After an operator that needs a letter.
     Sign(Operator),
-    /// Behind an operator and its letters. Here a text may end.
+    /// After an operator and its letters. Here a text may end.
     Letters(Operator),
 }
 
@@ -59,7 +59,7 @@ impl Reader {
         }
     }
 
-    /// Behind one more byte. None where no text goes on so.
+    /// The reader after one more byte. `None` where no text goes on so.
     pub fn after_byte(&self, byte: u8) -> Option<Reader>
         ensures { result ≡ machine.after_byte self.now byte }
     {
@@ -103,7 +103,7 @@ impl Reader {
         })
     }
 
-    /// Behind a list: an operator.
+    /// After a list: an operator.
     fn operated(&self, list: CapSet, byte: u8) -> Option<Reader>
         ensures { result ≡ machine.operated self.now.sets list byte }
     {
@@ -126,7 +126,7 @@ impl Reader {
         }
     }
 
-    /// Behind a name: a comma or an operator.
+    /// After a name: a comma or an operator.
     fn separated(&self, list: CapSet, byte: u8) -> Option<Reader>
         ensures { result ≡ machine.separated self.now.sets list byte }
     {
@@ -140,7 +140,7 @@ impl Reader {
         self.operated(list, byte)
     }
 
-    /// One byte more of a name.
+    /// One more byte of a name.
     fn longer_name(&self, list: CapSet, prefix: &Prefix, byte: u8) -> Option<Reader>
         ensures { result ≡ machine.longer_name self.now.sets list (prefix.now ++ byte ∷ []) }
     {
@@ -152,7 +152,7 @@ impl Reader {
         })
     }
 
-    /// Behind an operator: a letter.
+    /// After an operator: a letter.
     fn lettered(&self, operator: Operator, byte: u8) -> Option<Reader>
         ensures { result ≡ machine.lettered self.now.sets self.now.list operator byte }
     {
@@ -164,7 +164,7 @@ impl Reader {
         })
     }
 
-    /// Behind an action, or within one: a letter more, another action, or another clause.
+    /// After an action, or within one: another letter, another action, or another clause.
     fn letter_or_operator(&self, operator: Operator, byte: u8) -> Option<Reader>
         ensures { result
             ≡ machine.step_at self.now.sets self.now.list (TextPlace.Letters operator) byte }
@@ -181,7 +181,7 @@ impl Reader {
     }
 }
 
-/// Behind an operator: `=` needs no letter.
+/// After an operator: `=` needs no letter.
 fn place_after(operator: Operator) -> TextPlace
     ensures { result ≡ machine.place_after operator }
 {

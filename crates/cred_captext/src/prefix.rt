@@ -35,7 +35,7 @@ pub fn capitals(cap: Cap) -> &'static [u8]
     cap_name(cap).as_bytes()
 }
 
-/// Whether the first bytes of the two names are the same, so many.
+/// Whether the first `count` bytes of the two names are the same.
 fn share(one: Cap, other: Cap, count: usize) -> bool
     requires { count ≤ length (lowercase_name one) }
     ensures { IsTrue result ↔ (take count (lowercase_name other) ≡ take count (lowercase_name one)) }

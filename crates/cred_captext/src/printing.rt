@@ -23,7 +23,7 @@ fn append_name(out: &mut Vec<u8>, cap: Cap) -> Result<(), NoMemory>
     Ok(())
 }
 
-/// Appends the name of a capability, behind a comma where another name stands before it.
+/// Appends the name of a capability, after a comma where another name stands before it.
 fn append_next(out: &mut Vec<u8>, comma: bool, cap: Cap) -> Result<(), NoMemory>
     ensures { OnOk result
         (out.new.items ≡ out.old.items ++ (pieces.comma_text comma ++ lowercase_name cap)) }

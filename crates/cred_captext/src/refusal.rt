@@ -6,7 +6,7 @@ pub enum TextRefusal {
     /// They are outside the grammar, and the longest of their prefixes with which some text begins
     /// has this length.
     Bad(usize),
-    /// The effective capabilities are not none, and not just those that are permitted or
-    /// inheritable, where a file has one flag for all.
+    /// The effective set is neither empty nor all that is permitted or inheritable, where a file
+    /// has one flag for all.
     Mixed,
 }

@@ -28,7 +28,7 @@ impl Sets {
         }
     }
 
-    /// The sets behind an operator: `=` takes the listed capabilities out of all three.
+    /// The sets after an operator: `=` takes the listed capabilities out of all three.
     pub fn after_operator(&self, list: CapSet, operator: Operator) -> Sets
         ensures { result ≡ meaning.after_operator list operator self.now }
     {
@@ -42,7 +42,7 @@ impl Sets {
         }
     }
 
-    /// The sets behind a letter: the listed capabilities come into the one that it names, or leave
+    /// The sets after a letter: the listed capabilities come into the one that it names, or leave
     /// it.
     pub fn after_letter(&self, list: CapSet, operator: Operator, letter: Letter) -> Sets
         ensures { result ≡ meaning.after_letter list operator self.now letter }

@@ -212,7 +212,8 @@ impl Casts {
     }
 }
 
-/// The broadcast at a place is closed. It stands by itself, since most steps close none.
+/// Closes the broadcast at a place.
+// Not inlined, since most steps close none.
 #[inline(never)]
 fn close(broadcasts: &mut Vec<Cast>, place: usize)
     requires { place < vec_len broadcasts.old }

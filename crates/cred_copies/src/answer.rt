@@ -21,7 +21,7 @@ pub fn copy_answer(a: &Answer) -> Result<Answer, NoMemory>
     }
 }
 
-/// The same of what a question is told.
+/// An equal answer to a question.
 fn copy_told(told: &Told) -> Result<Told, NoMemory>
     ensures equal { IfOk result (λ copied. copied ≡ told.now) }
     ensures refusal { OnErr result (HoldsList (spec.Told told.now)) }

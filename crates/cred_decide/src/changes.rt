@@ -110,8 +110,8 @@ pub fn change(
     }
 }
 
-/// What a commit answers, by what the change was, and what the new credential gains: that was
-/// sealed under this number in this slot, and so many tasks ended.
+/// What a commit answers, by the change and by what the new credential gains. That was sealed under
+/// the number `cred` in `slot`, and `ended` tasks ended.
 pub fn committed_by(change: Change, gains: &Gains, cred: u64, slot: u32, ended: u32) -> Answer
     ensures { result ≡ committed_by change gains.now cred slot ended }
 {

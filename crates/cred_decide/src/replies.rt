@@ -54,7 +54,7 @@ pub fn reply(
     Ok(Answer::Told(told))
 }
 
-/// The answer to a question about one capability: a number that is none is refused.
+/// The answer to a question about one capability: a number above 40 is refused.
 fn flag(is: Option<bool>) -> Answer
     ensures { result ≡ flag is }
 {

@@ -6,7 +6,7 @@ use cred_caps::{CapSet, SecureBits};
 use cred_ids::{Id, Ids4};
 use cred_record::{Gains, IdList};
 
-/// What a question is told.
+/// What a question that isn't refused is answered.
 #[derive(Drop)]
 pub enum Told {
     Ids {
@@ -35,7 +35,7 @@ pub enum Told {
     },
 }
 
-/// What a number that stands already is the number of.
+/// What has the number already.
 #[derive(Clone, Copy, PartialEq, Eq, Debug)]
 pub enum Named {
     Task,

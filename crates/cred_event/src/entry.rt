@@ -11,7 +11,7 @@ pub struct Entry {
 }
 
 impl Drop for Entry {
-    /// Most events hold no list and have nothing to give back: of these nothing is asked but that.
+    /// Most events have no memory of their own: these are forgotten, and only their kind is tested.
     #[inline(always)]
     fn drop(self) {
         let Entry {

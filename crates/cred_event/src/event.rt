@@ -11,8 +11,8 @@ pub enum Side {
     Objective,
 }
 
-/// Which of its ids, and which of its capability sets, a task asks by that wants to look into
-/// another (ptrace(2), "Ptrace access mode checking").
+/// Which of its ids, and which of its capability sets, a task asks by to look into another
+/// (ptrace(2), "Ptrace access mode checking").
 #[derive(Clone, Copy, PartialEq, Eq, Debug)]
 pub enum Mode {
     /// Its filesystem ids and its effective set: PTRACE_MODE_FSCREDS, as for `/proc/PID/exe`.
@@ -204,7 +204,7 @@ pub enum Event {
         file: u32,
     },
     /// The task makes an id call for itself alone, which no other thread of its process will
-    /// follow: the system call without its C library (nptl(7)).
+    /// follow: the system call without its wrapper in the C library (nptl(7)).
     Raw {
         task: u32,
         call: IdCall,

@@ -58,6 +58,10 @@ fn effective_after(cred: &Cred, file: &FileInfo, caps: &Option<FileCaps>) -> Cap
 }
 
 /// The credential after the execve of the file.
+///
+/// # Errors
+///
+/// `NoMemory` if the groups could not be copied.
 #[tactic(auto, unfolding(cred_rules::specs::Exec::after_exec))]
 pub fn after_exec(cred: &Cred, file: &FileInfo, caps: &Option<FileCaps>) -> Result<Cred, NoMemory>
     ensures { IfOk result (λ new. new ≡ after_exec cred.now file.now caps.now) }

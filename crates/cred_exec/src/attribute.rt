@@ -57,6 +57,10 @@ fn read_by(bytes: &[u8], chain: &[Id]) -> Result<Option<FileCaps>, AttrRefusal>
 
 /// The attribute of the file that counts for the task, if it has one. One that has no effect is not
 /// read.
+///
+/// # Errors
+///
+/// Why the bytes of an attribute that has effect spell none.
 #[tactic(auto, unfolding(cred_rules::specs::Exec::attribute_for))]
 pub fn attribute_for(
     cred: &Cred,

@@ -14,8 +14,8 @@ use std::alloc::Global;
 /// may have.
 pub const CALLS: u32 = 19_000;
 
-/// The script that is made from a number: one task of root, and so many calls of it, the same at
-/// each run.
+/// The script that is made from a number: one task of root, and `n` calls of it, the same at each
+/// run.
 ///
 /// # Errors
 ///
@@ -46,7 +46,7 @@ fn text_of(alloc: Global, n: u32) -> Result<Vec<u8>, NoMemory>
     Ok(text)
 }
 
-/// One more line of the text.
+/// Appends a line to the text.
 fn append_line(text: &mut Vec<u8>, line: &str) -> Result<(), NoMemory>
     ensures { OnOk result (text.new.items ≡ text.old.items ++ line.now ++ 10 ∷ []) }
 {

@@ -4,8 +4,8 @@ ghost use Rattle.cred_generate.specs.Sealed as spec;
 
 use cred_event::{Answer, Entry};
 
-/// How many credentials are sealed after the entries, where so many were before them, as their
-/// answers tell.
+/// How many credentials are sealed after the entries, by their answers, where `before` were sealed
+/// before them.
 pub(crate) fn sealed_after(before: u64, entries: &[Entry]) -> u64
     requires { before + length entries.now < 2 ^ 64 }
     ensures { result ≡ fold (λ count entry. spec.count_with count entry.answer) before entries.now }

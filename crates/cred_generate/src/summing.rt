@@ -1,4 +1,4 @@
-//! What is told of a journal in one line.
+//! The summary of a journal.
 ghost use Rattle.std.specs.Prelude.{◌≡◌, count_by, length};
 ghost use Rattle.cred_generate.specs.Summary.{HasRoom, is_refused, nothing_told, told_on};
 
@@ -6,7 +6,7 @@ use crate::sealing::sealed_after;
 use cred_event::Entry;
 use cred_script::Script;
 
-/// What is told of a journal in one line.
+/// The summary of a journal, which is one line of text.
 #[derive(Clone, Copy, PartialEq, Eq, Debug)]
 pub struct Summary {
     /// How many lines its script has.
@@ -20,7 +20,7 @@ pub struct Summary {
 }
 
 impl Summary {
-    /// What is told of a script before it has run.
+    /// The summary of a script before it has run.
     pub fn new(script: &Script) -> Summary
         ensures { result ≡ nothing_told script.now }
     {
@@ -32,7 +32,7 @@ impl Summary {
         }
     }
 
-    /// Tells of entries more, which come after those that it has told of.
+    /// Counts more entries, which come after those that were counted.
     pub fn add(&mut self, entries: &[Entry])
         requires { HasRoom self.old (length entries.now) }
         ensures { self.new ≡ told_on self.old entries.now }

@@ -20,8 +20,8 @@ use cred_spelling::{
 };
 use std::alloc::Global;
 
-/// A call or a question of the task: the line names it after the task. A file that it names is told
-/// by its place, the number of files where none has the name.
+/// A call or a question of the task: the line names it after the task. A file that it names is
+/// given by its place, the number of files where none has the name.
 ///
 /// # Errors
 ///
@@ -29,7 +29,7 @@ use std::alloc::Global;
 /// with `Reason::Count` where the words are more or fewer than the call has; `LineRefusal::Memory`
 /// where there is no memory for a list of groups or of bytes.
 #[tactic(auto, unfolding(crate::specs::Calls::content_of))]
-// So that the content is put into memory once, and not in parts.
+// Not inlined, so that the content is put into memory once, and not in parts.
 #[inline(never)]
 pub fn content_of(
     alloc: Global,

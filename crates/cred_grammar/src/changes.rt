@@ -10,7 +10,7 @@ use cred_record::AdjCall;
 use cred_script::DeclaredFiles;
 use cred_spelling::{Cap, ChangeName, Number, Reason, bare, one, three};
 
-/// A change, by its name, with its arguments. A file is told by its place, from 0 to 256: the
+/// A change, by its name, with its arguments. A file is given by its place, from 0 to 256: the
 /// number of files where none has the name.
 ///
 /// # Errors

@@ -12,8 +12,8 @@ use cred_script::DeclaredFiles;
 use cred_spelling::{FileCallName, Reason, bytes_of, mode_of, two};
 use std::alloc::Global;
 
-/// A call on a file, by its name, with its arguments. The file is told by its place, from 0 to 256:
-/// the number of files where none has the name.
+/// A call on a file, by its name, with its arguments. The file is given by its place, from 0 to
+/// 256: the number of files where none has the name.
 ///
 /// # Errors
 ///

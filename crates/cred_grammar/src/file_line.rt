@@ -10,10 +10,10 @@ use cred_script::{DeclaredFiles, ScriptFile};
 use cred_spelling::{Reason, bytes_of, is, mode_of, name_of, three};
 use std::alloc::Global;
 
-/// How many words stand after the first one of such a line: the five of each, and the three that
-/// may follow.
+/// The fewest words after the first one of such a line.
 const LEAST_WORDS: usize = 5;
 
+/// The most: `nosuid` and `caps HEX` may follow.
 const MOST_WORDS: usize = 8;
 
 /// `file NAME KIND ID ID MODE`, then perhaps `nosuid`, then perhaps `caps HEX`.

@@ -1,5 +1,5 @@
 //! The forms of a line: what its words are, and what it then declares or holds. Each function takes
-//! the words that stand after the one that names the form. Their number is asked before what they
+//! the words that stand after the one that names the form. Their number is tested before what they
 //! spell.
 ghost use Rattle.cred_spelling.specs.Read.{nows};
 ghost use Rattle.cred_grammar.specs.Forms as spec;
@@ -38,9 +38,9 @@ pub enum Parsed {
     Holds { by: Option<u32>, content: Content },
 }
 
-/// A line of this form, where these files are declared before it. A file that it names is told by
+/// A line of this form, where these files are declared before it. A file that it names is given by
 /// its place, the number of files where none has the name: whether the names that a line uses are
-/// declared is not asked here.
+/// declared is not tested here.
 ///
 /// # Errors
 ///
@@ -94,7 +94,7 @@ pub fn parse_form(
 }
 
 /// An event, by its name. `act` has the number of the line that began the broadcast. A file that it
-/// names is told by its place, the number of files where none has the name.
+/// names is given by its place, the number of files where none has the name.
 ///
 /// # Errors
 ///

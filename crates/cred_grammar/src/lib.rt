@@ -2,13 +2,12 @@
 //! line.
 //!
 //! What text is a script, and which script it is, is defined in `specs/`: a script is its lines,
-//! added one after another to what was read before them. Which words each form of a line has, and
-//! what the line then declares or holds, is said by `IdCalls`, `Changes`, `Questions`, `FileCalls`,
-//! `Records` and `Calls`, of what a task does, by `Files`, of the lines that declare files and of
-//! how a word names one, and by `Forms`, of all forms. `Reading` says what was read before a line,
-//! what that asks of the line and what the line adds to it. `Grammar` puts these together, and
-//! `read` answers exactly that; `Adding` names the steps between. `Sound` says what is true of what
-//! was read.
+//! added one after another to what was read before them. Which words a line has, and what it then
+//! declares or holds, is in `IdCalls`, `Changes`, `Questions`, `FileCalls`, `Records` and `Calls`
+//! for what a task does, in `Files` for the lines that declare files and for how a word names one,
+//! and in `Forms` for all forms. `Reading` says what was read before a line, what that requires of
+//! the line and what the line adds to it. `Grammar` puts these together, and `read` answers exactly
+//! that; `Adding` names the steps between. `Sound` says what is true of what was read.
 //!
 //! What is true of each script stands in `cred_script`; which lane has which tasks and labels, and
 //! the namespaces, in `cred_names`; how a text is split, what a word spells and the tables of

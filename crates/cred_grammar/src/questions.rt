@@ -20,7 +20,7 @@ pub(crate) fn file_and_want(files: &DeclaredFiles, words: &[&[u8]]) -> Result<(u
     }
 }
 
-/// A question, by the word that names it, with its arguments. A file is told by its place, from 0
+/// A question, by the word that names it, with its arguments. A file is given by its place, from 0
 /// to 256: the number of files where none has the name.
 ///
 /// # Errors
@@ -40,7 +40,7 @@ pub fn query_named(files: &DeclaredFiles, name: &[u8], words: &[&[u8]]) -> Resul
 
 /// A question, by its name.
 #[tactic(auto, unfolding(crate::specs::Questions::query_of))]
-// So that the question isn't put into memory on its way into the line.
+// Inlined, so that the question isn't put into memory on its way into the line.
 #[inline(always)]
 pub(crate) fn query_of(
     files: &DeclaredFiles,

@@ -1,4 +1,4 @@
-//! What was read of a script, and one more line of it.
+//! What was read of a script, and what another line adds to it.
 ghost use Rattle.std.specs.Prelude.{◌≡◌, ◌<◌, ◌≤◌, ◌+◌, IfErr, OnOk, length, true, Ok};
 ghost use Rattle.cred_ids.specs.Limits.{LAST_LANE, LINE_LIMIT};
 ghost use Rattle.cred_model.specs.Script.{SetupFirst};
@@ -83,8 +83,8 @@ impl Reading {
         Script::new(files, namespaces, lines)
     }
 
-    /// One more line, of which it was tested whether each byte is printable, and which was split if
-    /// so. A bad one is reported by its number.
+    /// Adds a line. Whether each of its bytes is printable was tested, and it was split if so. A
+    /// bad one is reported by its number.
     pub(crate) fn add_numbered(
         &mut self,
         alloc: Global,
@@ -109,7 +109,7 @@ impl Reading {
         }
     }
 
-    /// One more line.
+    /// Adds a line.
     #[tactic(auto, unfolding(crate::specs::Grammar::add_line))]
     fn add_line(
         &mut self,
@@ -130,7 +130,7 @@ impl Reading {
         }
     }
 
-    /// One more line, of these words. One without words, and a comment, declare nothing and hold
+    /// Adds a line of these words. One without words, and a comment, declare nothing and hold
     /// nothing.
     fn add_words(&mut self, alloc: Global, words: &[&[u8]]) -> Result<(), LineRefusal>
         requires few { length self.old.lines < LINE_LIMIT }
@@ -149,7 +149,7 @@ impl Reading {
         }
     }
 
-    /// One more line that isn't empty. What it holds goes the shortest way to its place: most lines
+    /// Adds a line that isn't empty. What it holds goes the shortest way to its place: most lines
     /// hold something.
     #[tactic(auto, unfolding(crate::specs::Grammar::parse_full, crate::specs::Forms::parse_form))]
     fn add_full(&mut self, alloc: Global, first: &[u8], words: &[&[u8]]) -> Result<(), LineRefusal>
@@ -165,7 +165,7 @@ impl Reading {
         }
     }
 
-    /// One more line, of this form.
+    /// Adds a line of this form.
     // Few lines declare something.
     #[cold]
     #[inline(never)]
@@ -179,7 +179,7 @@ impl Reading {
         self.keep(alloc, line)
     }
 
-    /// One more line, a call or a question of the task.
+    /// Adds a line that is a call or a question of the task.
     fn add_call(&mut self, alloc: Global, task: u32, words: &[&[u8]]) -> Result<(), LineRefusal>
         requires few { length self.old.lines < LINE_LIMIT }
         ensures { GivesLine (λ _. self.new) result
@@ -189,7 +189,7 @@ impl Reading {
         self.add_held(Some(task), content)
     }
 
-    /// One more line, an event of this name.
+    /// Adds a line that is an event of this name.
     fn add_event(
         &mut self,
         alloc: Global,
@@ -204,7 +204,7 @@ impl Reading {
         self.add_held(event_actor(&event), Content::One(event))
     }
 
-    /// One more line, which holds this, and by which this task acts, if it may stand here.
+    /// Adds a line that holds this, and by which this task acts, if it may stand here.
     #[inline(never)]
     fn add_held(&mut self, by: Option<u32>, content: Content) -> Result<(), LineRefusal>
         requires few { length self.old.lines < LINE_LIMIT }
@@ -216,7 +216,7 @@ impl Reading {
         self.hold(by, content)
     }
 
-    /// The reading, and what this line adds to it.
+    /// Adds a line that was parsed.
     fn keep(&mut self, alloc: Global, line: Parsed) -> Result<(), LineRefusal>
         requires few { length self.old.lines < LINE_LIMIT }
         requires sound { IsParsed self.old line }
@@ -245,7 +245,7 @@ impl Reading {
         }
     }
 
-    /// One more line, which opens this lane and belongs to it.
+    /// Adds a line that opens this lane and belongs to it.
     fn open_lane(&mut self, number: u32) -> Result<(), LineRefusal>
         requires few { length self.old.lines < LINE_LIMIT }
         requires lane { (1 ≤ number) × (number ≤ LAST_LANE) }
@@ -257,7 +257,7 @@ impl Reading {
         self.push(Content::Nothing)
     }
 
-    /// One more line, which holds this, and by which this task acts.
+    /// Adds a line that holds this, and by which this task acts.
     #[inline(always)]
     fn hold(&mut self, by: Option<u32>, content: Content) -> Result<(), LineRefusal>
         requires few { length self.old.lines < LINE_LIMIT }
@@ -271,7 +271,7 @@ impl Reading {
         self.push(content)
     }
 
-    /// One more line, which holds this.
+    /// Adds a line that holds this.
     #[inline(always)]
     fn push(&mut self, content: Content) -> Result<(), LineRefusal>
         requires few { length self.old.lines < LINE_LIMIT }
@@ -284,8 +284,8 @@ impl Reading {
         Ok(())
     }
 
-    /// The line may stand here: no declaration stands after a call, an event or a lane line, then
-    /// the names are asked, and then the lanes.
+    /// Tests whether the line may stand here: a declaration may not after a call, an event or a
+    /// lane line. Then the names are tested, and then the lanes.
     fn admits(&self, line: &Parsed) -> Result<(), Reason>
         ensures { Says (λ x. x) result (spec.admits self.now line.now) }
     {
@@ -300,8 +300,8 @@ impl Reading {
         }
     }
 
-    /// A line that holds this, and by which this task acts, may stand here: the names are asked
-    /// before the lanes.
+    /// Tests whether a line that holds this, and by which this task acts, may stand here: the names
+    /// are tested before the lanes.
     fn may_hold(&self, by: Option<u32>, content: &Content) -> Result<(), Reason>
         ensures { Says (λ x. x) result (spec.admits self.now (parsed.Holds by content.now)) }
     {
@@ -314,7 +314,7 @@ impl Reading {
         }
     }
 
-    /// The names that the line uses are declared, and the one that it declares is not.
+    /// Whether the names that the line uses are declared, and the one that it declares is not.
     fn has_names(&self, line: &Parsed) -> bool
         ensures { result ≡ spec.has_names self.now line.now }
     {
@@ -330,8 +330,8 @@ impl Reading {
         }
     }
 
-    /// The line changes no file outside the setup, and no line of another lane but the setup has
-    /// named the task that acts by it, or a label of it.
+    /// Whether the line changes no file outside the setup, and no line of another lane but the
+    /// setup has named the task that acts by it, or a label of it.
     fn is_apart(&self, line: &Parsed) -> bool
         ensures { result ≡ spec.is_apart self.now line.now }
     {

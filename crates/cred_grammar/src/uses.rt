@@ -9,7 +9,7 @@ use cred_event::{Change, Content, Event, FileCall, Query};
 use cred_names::{Lanes, Namespaces};
 use cred_script::DeclaredFiles;
 
-/// Each namespace that the line names is declared.
+/// Whether each namespace that the line names is declared.
 pub(crate) fn has_namespaces(declared: &Namespaces, content: &Content) -> bool
     ensures { result ≡ spec.has_namespaces declared.now content.now }
 {
@@ -19,7 +19,7 @@ pub(crate) fn has_namespaces(declared: &Namespaces, content: &Content) -> bool
     }
 }
 
-/// Each file that the line names is declared.
+/// Whether each file that the line names is declared.
 pub(crate) fn has_files(declared: &DeclaredFiles, content: &Content) -> bool
     ensures { result ≡ spec.has_files declared.now content.now }
 {
@@ -29,7 +29,7 @@ pub(crate) fn has_files(declared: &DeclaredFiles, content: &Content) -> bool
     }
 }
 
-/// The line changes no file, or belongs to the setup.
+/// Whether the line changes no file, or belongs to the setup.
 pub(crate) fn may_change(lanes: &Lanes, content: &Content) -> bool
     ensures { result ≡ spec.may_change lanes.now content.now }
 {

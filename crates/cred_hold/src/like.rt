@@ -172,8 +172,8 @@ fn word_like(cells: &Cells, hold: &mut Hold, from: u32, groups: &Option<Groups>,
     }
 }
 
-/// Puts in the slot that is written the words of the credential that is held, with these parts and
-/// groups: only the words of groups that it has and the new one lacks are cleared.
+/// Puts in the slot that is written the credential that is held, with these parts and groups: of
+/// the words past the new groups only those that have old ones are cleared.
 #[inline(always)]
 fn scatter_like(
     cells: &Cells,
@@ -214,7 +214,7 @@ fn scatter_like(
     );
 }
 
-/// The same of a sealed slot, by a hold that is lent and comes back. What else is lent stays.
+/// The same from a sealed slot, by a hold that is lent and comes back. What else is lent stays.
 #[inline(always)]
 fn scatter_from(
     master: &mut Master,

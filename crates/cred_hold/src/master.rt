@@ -218,7 +218,7 @@ impl Master {
         self.take_back(cells, writer);
     }
 
-    /// Puts on the slot of a writer the credential of a sealed slot, likewise.
+    /// The same by a writer that is lent already.
     #[inline(always)]
     fn put_like(
         &mut self,

@@ -1,4 +1,4 @@
-//! The words of a slot, read or put one step after another.
+//! The words of a slot, loaded or stored one after another.
 ghost use Rattle.std.specs.Prelude.{◌≡◌, ◌+◌, ◌≤◌, ℕ, None, true, IfOk, length};
 ghost use Rattle.std.specs.Prelude.{take, drop, slice_index};
 ghost use Rattle.cred_record.specs.Words.{are_words, credential_in, group_count, words_of};
@@ -15,7 +15,7 @@ use cred_record::layout::{FLAGS, GROUPS};
 use cred_words::cells::{Cells, Hold, Master, Writer, load_own_word, load_word, settle_word};
 use std::alloc::Global;
 
-/// So many words of the slot that is held, from `first` on. Each is loaded at a moment of its own.
+/// `N` words of the slot that is held, from `first` on. Each is loaded at a moment of its own.
 #[inline(always)]
 pub(crate) fn gather<const N: usize>(
     cells: &Cells,
@@ -62,7 +62,7 @@ pub(crate) fn groups_of(
 }
 
 /// The credential of the slot that is held, whose words are a credential's. Those past its groups
-/// are known to be 0, and are not read.
+/// are known to be 0, and are not loaded.
 pub(crate) fn read_whole(
     alloc: Global,
     cells: &Cells,
@@ -81,8 +81,8 @@ pub(crate) fn read_whole(
     Ok(known_head(&first, groups))
 }
 
-/// So many words of a sealed slot, from `first` on, by a hold that is lent and comes back. What
-/// else is lent stays.
+/// `N` words of a sealed slot, from `first` on, by a hold that is lent and comes back. What else is
+/// lent stays.
 pub(crate) fn load_sealed<const N: usize>(
     master: &mut Master,
     cells: &Cells,
@@ -105,7 +105,8 @@ pub(crate) fn load_sealed<const N: usize>(
     words
 }
 
-/// The credential of a sealed slot whose words are a credential's, likewise.
+/// The credential of a sealed slot whose words are a credential's, by a hold that is lent and comes
+/// back. What else is lent stays.
 pub(crate) fn read_sealed(
     alloc: Global,
     master: &mut Master,
@@ -128,8 +129,8 @@ pub(crate) fn read_sealed(
     cred
 }
 
-/// Puts 0 in the words of the slot that is written from `first` on up to `last`. From the later of
-/// the two on they are 0 already.
+/// Stores 0 in the words of the slot that is written, from `first` on and before `last`. From the
+/// later of the two on they are 0 already.
 pub(crate) fn clear(cells: &Cells, writer: &mut Writer, slot: u32, first: usize, last: usize)
     requires own { writer.old.id ≡ cells.now }
     requires slot { slot ≡ writer.old.token.slot }
@@ -147,8 +148,8 @@ pub(crate) fn clear(cells: &Cells, writer: &mut Writer, slot: u32, first: usize,
     }
 }
 
-/// Puts all words of a credential in the slot that is written, whose words are a credential's: only
-/// the words of groups that it has and the new one lacks are cleared.
+/// Puts a credential in the slot that is written, whose words are a credential's: of the words past
+/// the new groups only those that have old ones are cleared.
 pub(crate) fn scatter(cells: &Cells, writer: &mut Writer, slot: u32, cred: &Cred)
     requires own { writer.old.id ≡ cells.now }
     requires slot { slot ≡ writer.old.token.slot }

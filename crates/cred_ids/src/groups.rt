@@ -68,7 +68,7 @@ impl Groups {
         ensures too_many { IsErrOf result (GroupsRefusal.TooMany (length list.now))
             ↔ (GROUP_LIMIT < length list.now) }
 
-        // No other number of ids is told.
+        // `TooMany` has no other number.
         ensures refusal { IfErr result
             (λ e. (e ≡ GroupsRefusal.TooMany (length list.now)) ⊎ (e ≡ GroupsRefusal.Memory)) }
     {
@@ -85,8 +85,8 @@ impl Groups {
         Ok(Groups { ids })
     }
 
-    /// The groups of a list that is known to be one of groups: sorted, and at most 1,024. It takes
-    /// no memory.
+    /// The groups of a list that is known to be sorted and to have at most 1,024 ids. It takes no
+    /// memory.
     pub fn from_sorted(ids: Vec<Id>) -> Groups
         requires { IsGroupList ids.items }
         ensures { result ≡ ids.items }

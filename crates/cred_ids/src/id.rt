@@ -35,7 +35,7 @@ impl Id {
         Some(Id(n))
     }
 
-    /// The id of a number that is known to be one, without a look at it.
+    /// The id of a number that is known to be one, which isn't tested.
     #[inline(always)]
     pub fn known(n: u32) -> Id
         requires { n < Self.NONE }

@@ -1,5 +1,5 @@
-//! The limits: how many there may be of each thing. What comes at a limit is said where it is
-//! tested. No other constant of the program is a limit.
+//! The limits: how many there may be of each thing. What happens at a limit is documented where it
+//! is tested. No other constant of the program is a limit.
 ghost use Rattle.std.specs.Prelude.{◌≡◌};
 ghost use Rattle.cred_ids.specs.Limits as limits;
 
@@ -24,10 +24,10 @@ pub const LAST_NAMESPACE: u32 = 15;
 /// The last number that a script gives a task, a process, a label or a descriptor; the first is 1.
 pub const LAST_NUMBER: u32 = 99_999;
 
-/// The first of the labels that a line takes for itself, of a line 0.
+/// The labels that line n takes for itself begin at this number plus n times `LABELS_A_LINE`.
 pub const FIRST_LINE_LABEL: u32 = 100_000;
 
-/// How many of these labels each line has.
+/// How many labels each line may take for itself.
 pub const LABELS_A_LINE: u32 = 10;
 
 /// How often a line tries to change a credential, where another change comes before its commit.

@@ -16,8 +16,8 @@ pub fn bounding_never_grows()
     ensures { BoundingNeverGrows }
 {}
 
-/// No call adds to the permitted set, whoever makes it, but execve, and that just what it says that
-/// it gained (capabilities(7): what is dropped from it comes back by execve alone).
+/// No call but execve adds to the permitted set, whoever makes it, and execve just what it says
+/// that it gained (capabilities(7): what is dropped from it comes back by execve alone).
 #[tactic(auto, using(crate::proofs::CallLaws::permitted_grows_by_execve))]
 pub fn permitted_grows_by_execve()
     ensures { PermittedGrowsByExecve }

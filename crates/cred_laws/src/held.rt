@@ -29,7 +29,7 @@ pub fn held_stays()
 /// A prepared label stands, and keeps its task, its base and its slot, after each event that does
 /// not end it: its own commit or abort, or an override by what it prepared.
 ///
-/// It does not say that the prepared credential stays: each change makes it anew of the base.
+/// It does not say that the prepared credential stays: each change makes it anew from the base.
 pub fn prepared_stays()
     ensures { PreparedStays }
 {}

@@ -1,8 +1,8 @@
 //! Laws of journals: what holds of every journal that a script has, or of every step of a run.
 //!
 //! Each law is the contract of a function with nothing in its body, over the definitions that the
-//! code is proved to follow. So there is nothing to run. The edits here make a law claim too much;
-//! a wrong body stands with the code that keeps the law.
+//! code is proved to follow. So there is nothing to run. The edits in `must-fail/` make a law claim
+//! too much; a wrong body stands with the code that keeps the law.
 #![tactic(auto)]
 
 pub mod answered;

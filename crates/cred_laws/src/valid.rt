@@ -5,7 +5,7 @@ ghost use Rattle.cred_laws.specs.Valid.{SealedAreValid};
 /// that isn't permitted, and nothing ambient that isn't permitted and inheritable (capabilities(7),
 /// "Thread capability sets").
 ///
-/// It makes no premise on the journal's answers.
+/// It assumes nothing of the journal's answers.
 pub fn sealed_are_valid()
     ensures { SealedAreValid }
 {}

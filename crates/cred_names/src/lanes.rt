@@ -42,7 +42,7 @@ impl Owners {
         self.by_number.get(&number).copied()
     }
 
-    /// No line of another lane has named it, if there is one.
+    /// Whether no line of another lane has named it, if there is one.
     #[inline(never)]
     fn is_free(&self, lane: u32, number: Option<u32>) -> bool
         ensures { result ≡ spec.are_free self.now lane (cons_option number []) }
@@ -56,7 +56,7 @@ impl Owners {
         }
     }
 
-    /// A line of this lane names it, if there is one. Without memory nothing changes.
+    /// A line of this lane names it, if there is one. If an allocation fails, nothing changes.
     #[inline(never)]
     fn name(&mut self, lane: u32, number: Option<u32>) -> Result<(), NoMemory>
         ensures ok { OnOk result
@@ -70,7 +70,7 @@ impl Owners {
         }
     }
 
-    /// It is named for the first time. Without memory nothing changes.
+    /// It is named for the first time. If an allocation fails, nothing changes.
     fn add(&mut self, lane: u32, number: u32) -> Result<(), NoMemory>
         requires { spec.owner_of self.old number ≡ None }
         ensures ok { OnOk result (self.new ≡ self.old ++ (number, lane) ∷ []) }
@@ -135,7 +135,7 @@ impl Lanes {
         self.current == 0 || self.tasks.is_free(self.current, by) && self.are_free(content)
     }
 
-    /// The labels of the line are named by no line of another lane.
+    /// Whether no line of another lane has named the labels of the line.
     #[inline(never)]
     fn are_free(&self, content: &Content) -> bool
         ensures { result ≡ spec.are_free self.now.labels self.now.current (labels content.now) }
@@ -149,7 +149,7 @@ impl Lanes {
     ///
     /// # Errors
     ///
-    /// `NoMemory` where there is no memory to keep one of them. What a lane had it has still, and
+    /// `NoMemory` where there is no memory to keep one of them. Each lane keeps what it had, and
     /// this lane may have a part of them.
     #[inline(always)]
     pub fn name(&mut self, by: Option<u32>, content: &Content) -> Result<(), NoMemory>

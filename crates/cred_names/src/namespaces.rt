@@ -14,7 +14,7 @@ struct Namespace {
     number: u32,
     /// The root ids of the namespace and of its ancestors, its own first.
     chain: Vec<Id>,
-    /// The numbers of the same.
+    /// The numbers of these namespaces, in the same order.
     lineage: Vec<u32>,
 }
 
@@ -94,7 +94,7 @@ impl Namespaces {
         }
     }
 
-    /// One namespace more, with its root id and its parent, which is declared.
+    /// Adds a namespace, with its root id and its parent, which is declared.
     ///
     /// # Errors
     ///

@@ -93,7 +93,7 @@ pub fn known_group(word: u64, place: usize) -> Id
     Id::known(half(word, place))
 }
 
-/// So many ids from the first of the words of groups on. `None` where one of them is none.
+/// The first `count` ids in the words of groups. `None` where one of these numbers is no id.
 fn group_ids(alloc: Global, words: &[u64; WORDS], count: usize) -> Result<Option<Vec<Id>>, NoMemory>
     requires { count ≤ 2 * (WORDS - GROUPS) }
     ensures some { IfOk result (λ o. IfSome o

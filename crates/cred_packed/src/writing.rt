@@ -105,7 +105,7 @@ pub fn word_of_groups(cred: &Cred, i: usize) -> u64
     group_word(&cred.groups, i)
 }
 
-/// So many words that are 0.
+/// `N` words that are 0.
 fn blank<const N: usize>() -> [u64; N]
     ensures { result ≡ replicate N 0 }
 {

@@ -35,7 +35,7 @@ impl Processes {
         }
     }
 
-    /// A task becomes the newest thread of a process. Without memory no threads change.
+    /// A task becomes the newest thread of a process. If an allocation fails, no threads change.
     pub fn add(&mut self, process: u32, task: u32) -> Result<(), NoMemory>
         ensures ok { OnOk result ((p : ℕ) → threads_at self.new p
             ≡ (if p == process
@@ -53,7 +53,7 @@ impl Processes {
         Ok(())
     }
 
-    /// A task is no thread of the process any more.
+    /// Removes a task from the threads of a process.
     pub fn remove(&mut self, process: u32, task: u32)
         ensures { (p : ℕ) → threads_at self.new p ≡ (if p == process
             then filter (λ n. not (n == task)) (threads_at self.old p)
@@ -65,7 +65,7 @@ impl Processes {
         self.forget_empty(process);
     }
 
-    /// A process without threads is kept no longer.
+    /// Removes a process that has no thread left.
     fn forget_empty(&mut self, process: u32)
         ensures { (p : ℕ) → threads_at self.new p ≡ threads_at self.old p }
     {
@@ -87,7 +87,7 @@ pub fn without(alloc: Global, tasks: &[u32], task: u32) -> Result<Vec<u32>, NoMe
     Ok(others)
 }
 
-/// The list is without a task.
+/// Takes a task off the list.
 fn take_off(tasks: &mut Vec<u32>, task: u32)
     ensures { tasks.new.items ≡ filter (λ n. not (n == task)) tasks.old.items }
 {

@@ -184,7 +184,7 @@ impl Procs {
         self.start(child, process, number)
     }
 
-    /// The threads of a process, in rising order. None where the process has none.
+    /// The threads of a process, in rising order.
     ///
     /// # Errors
     ///
@@ -315,7 +315,7 @@ impl Procs {
         Ok(CredNumbers::from_vec(numbers))
     }
 
-    /// These tasks end, which come in the order in which they were created.
+    /// Ends these tasks, which come in the order in which they were created.
     fn end(&mut self, tasks: TaskList) -> Result<Ended, NoMemory>
         ensures ended { IfOk result (λ ended. (ends : Task → Bool) → tasks ≡ those ends self.old
             → EndsTasks ends self.old self.new ended.tasks ended.numbers) }
@@ -328,7 +328,7 @@ impl Procs {
         Ok(Ended { tasks, numbers })
     }
 
-    /// The table is without a task, also where it had none of that number.
+    /// Removes a task. Where there is none of that number, nothing changes.
     pub fn remove(&mut self, task: u32)
         ensures { self.new ≡ survivors (is_task task) self.old }
     {

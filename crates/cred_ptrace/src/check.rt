@@ -147,8 +147,8 @@ fn is_no_stronger(from: &Seen, to: &Seen, mode: Mode) -> bool
 }
 
 /// Whether an effective or a filesystem id of the new credential, of the user or of the group, is
-/// another than the old one's: then the task's process is dumpable no longer (prctl(2)). Other
-/// changes leave that.
+/// another than the old one's: then the task's process is no longer dumpable (prctl(2)). Other
+/// changes leave that flag.
 pub fn differs(old: &Cred, new: &Cred) -> bool
     ensures { result ≡ differs old.now new.now }
 {

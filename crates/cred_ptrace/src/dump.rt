@@ -41,8 +41,8 @@ impl Flag {
 /// Whether each process is dumpable. Contracts see the list of the processes with their flags, in
 /// the order in which they began.
 ///
-/// There is room for the flags of 64 processes, as many as tasks may live. A look at one process
-/// goes over those.
+/// There is room for the flags of 64 processes, as many as tasks may live. A process is searched
+/// for among all of them.
 #[derive(Drop)]
 pub struct Dump {
     flags: Vec<Flag>,
@@ -118,8 +118,8 @@ impl Dump {
         self.flags.retain(|flag| flag.process != process);
     }
 
-    /// A task of the process has another credential. Where an effective or a filesystem id is
-    /// another one in that (`other`), the process is dumpable no longer.
+    /// A task of the process has another credential. `other` says that an effective or a filesystem
+    /// id is another one in it: then the process is no longer dumpable.
     pub fn renew(&mut self, process: u32, other: bool)
         ensures { self.new ≡ renewed self.old process other }
     {
@@ -155,7 +155,7 @@ impl Dump {
     }
 }
 
-/// The flag of a value, which is 0 or 1 (prctl(2), PR_SET_DUMPABLE). `None` of another value.
+/// The flag of a value, which is 0 or 1 (prctl(2), PR_SET_DUMPABLE). `None` for another value.
 pub fn flag_of_value(value: u32) -> Option<bool>
     ensures { result ≡ flag_of_value value }
 {

@@ -2,7 +2,7 @@
 use cred_caps::CapSet;
 
 /// A call that changes the capability sets, the securebits or no_new_privs of a task (capset(2),
-/// prctl(2)). A number is one as the caller gave it, in or out of range.
+/// prctl(2)). A number is as the caller gave it, in range or not.
 #[derive(Clone, Copy, PartialEq, Eq, Debug)]
 pub enum AdjCall {
     /// capset(2): sets the permitted, inheritable and effective sets at once.

@@ -6,7 +6,7 @@ use cred_ids::NoMemory;
 pub enum Refusal {
     /// EPERM: the caller may not do this.
     Perm,
-    /// EINVAL: an argument is none that the call takes.
+    /// EINVAL: the call takes no such argument.
     Invalid,
     /// Memory ran out.
     Memory,
@@ -23,12 +23,12 @@ impl From<NoMemory> for Refusal {
     }
 }
 
-/// Why a rule refuses a call. A rule takes no memory, so it has no such answer.
+/// Why a rule refuses a call. A rule takes no memory, and can't run out of it.
 #[derive(Clone, Copy, PartialEq, Eq, Debug)]
 pub enum Denial {
     /// EPERM: the caller may not do this.
     Perm,
-    /// EINVAL: an argument is none that the call takes.
+    /// EINVAL: the call takes no such argument.
     Invalid,
 }
 

@@ -95,7 +95,7 @@ impl DeclaredFiles {
         Some(info)
     }
 
-    /// One more file, which goes last.
+    /// Adds a file, as the last one.
     ///
     /// # Errors
     ///

@@ -3,8 +3,8 @@
 //!
 //! `specs/` says in `Sound` what is true of each script, in `Lines` which line has a number, in
 //! `Acting` which task acts by a line, in `Lanes` which lane is the greatest, in `Files` which file
-//! has a name, and in `Kept` how the files are kept. Which text is a script is said in
-//! `cred_grammar`, which reads one.
+//! has a name, and in `Kept` how the files are kept. `cred_grammar`, which reads scripts, defines
+//! which texts they are.
 #![tactic(auto)]
 
 mod actor;

@@ -64,7 +64,7 @@ pub fn apply_parts(
     decide(alloc, own, call)
 }
 
-/// The same, said of whatever credential has these parts.
+/// The same, for each credential that has these parts.
 #[inline(always)]
 fn decide(alloc: Global, own: &mut IdParts, call: &IdCall) -> Result<Option<Groups>, Refusal>
     ensures made { (c : Credential) →
@@ -88,7 +88,7 @@ fn decide(alloc: Global, own: &mut IdParts, call: &IdCall) -> Result<Option<Grou
     }
 }
 
-/// Gives the parts these user ids, and the sets as they follow, or says why there are none.
+/// Gives the parts these user ids and the sets that follow from them, or passes the denial on.
 #[inline(always)]
 fn set_users(own: &mut IdParts, ids: Result<Ids4, Denial>) -> Result<Option<Groups>, Refusal>
     ensures made { (c : Credential) →
@@ -100,7 +100,7 @@ fn set_users(own: &mut IdParts, ids: Result<Ids4, Denial>) -> Result<Option<Grou
     Ok(None)
 }
 
-/// Gives the parts these group ids, which leave the sets alone, or says why there are none.
+/// Gives the parts these group ids, which leave the sets alone, or passes the denial on.
 #[inline(always)]
 fn set_groups(own: &mut IdParts, ids: Result<Ids4, Denial>) -> Result<Option<Groups>, Refusal>
     ensures made { (c : Credential) →

@@ -20,7 +20,7 @@ pub const UNUSED: Row = Row {
     late: 0,
 };
 
-/// What was given up no longer counts.
+/// Drops what was given up.
 pub fn forget_late(rows: &mut [Row])
     ensures { rows.new ≡ map without_late rows.old }
 {

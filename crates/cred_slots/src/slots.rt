@@ -83,7 +83,7 @@ impl Slots {
         })
     }
 
-    /// The least slot that isn't live, or that isn't once what was given up no longer counts.
+    /// The least slot that isn't live. Where all are, the least that isn't after a sweep.
     pub fn free_slot(&self) -> Option<u32>
         ensures { result ≡ free_in self.now }
     {
@@ -139,7 +139,8 @@ impl Slots {
         Ok(())
     }
 
-    /// The next number stands in the slot, which is no longer kept, and has one reference.
+    /// Seals the next number in the slot, which is no longer kept, with one reference. Returns the
+    /// number.
     #[inline(always)]
     pub fn seal(&mut self, slot: u32) -> u64
         requires kept { IsTrue (is_kept_in self.old slot) }
@@ -169,7 +170,7 @@ impl Slots {
         number
     }
 
-    /// The number has one reference more.
+    /// Adds a reference to the number.
     #[inline(always)]
     pub fn add(&mut self, number: u64)
         requires referred { 0 < references_to self.old number }
@@ -187,7 +188,7 @@ impl Slots {
         self.spare -= 1;
     }
 
-    /// A reference to the number is given up, and counts until the next sweep.
+    /// Gives up a reference to the number. It counts until the next sweep.
     #[inline(always)]
     pub fn drop_later(&mut self, number: u64)
         requires { 0 < count_by (λ n. n == number) self.old.held }
@@ -208,7 +209,7 @@ impl Slots {
         self.deferred.push_reserved(number);
     }
 
-    /// What was given up no longer counts.
+    /// Drops all references that were given up.
     pub fn sweep(&mut self)
         ensures { self.new ≡ swept_table self.old }
     {
@@ -247,7 +248,7 @@ impl Slots {
         self.kept.union(&self.used).union(&self.late).first_unset()
     }
 
-    /// The least slot that isn't live once what was given up no longer counts.
+    /// The least slot that isn't live after a sweep.
     fn least_free_once_swept(&self) -> Option<u32>
         ensures { result ≡ least_free_in (swept_table self.now) }
     {

@@ -25,14 +25,14 @@ ghost use Rattle.cred_sound.specs.Sound.{StatesAreSound};
 /// Each process that has threads has one flag that says whether it is dumpable (prctl(2)), and no
 /// other process has any.
 ///
-/// It makes no premise on the journal's answers, and says nothing of them.
+/// It assumes nothing of the journal's answers, and says nothing of them.
 pub fn states_are_sound()
     ensures { StatesAreSound }
 {}
 
 /// No more than 64 tasks live in the state after any journal.
 ///
-/// It makes no premise on the journal's answers, and says nothing of them.
+/// It assumes nothing of the journal's answers, and says nothing of them.
 pub fn tasks_are_few()
     ensures { TasksAreFew }
 {}

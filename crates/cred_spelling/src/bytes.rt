@@ -8,7 +8,7 @@ use hex::FromHexError;
 use std::alloc::Global;
 
 /// The bytes that a word spells in hexadecimal: 2 to 128 digits of either case, an even number,
-/// with or without `0x` before them, as getfattr(1) writes an attribute. None for any other word.
+/// with or without `0x` before them, as getfattr(1) writes an attribute. `None` for any other word.
 ///
 /// # Errors
 ///

@@ -10,14 +10,14 @@ use std::str;
 ///
 /// # Errors
 ///
-/// `Reason::Word` where the word is none.
+/// `Reason::Word` where the word is no such name.
 pub fn name_of(word: &[u8]) -> Result<&str, Reason>
     ensures { Says (λ name. name.now) result (spec.name_of word.now) }
 {
     match str::from_utf8(word) {
         Ok(name) if is_name(word) => Ok(name),
         Ok(_) => Err(Reason::Word),
-        // A name has letters, digits and three marks alone: what is no text is no name.
+        // A name has letters, digits and three marks alone: what isn't UTF-8 is no name.
         Err(_) => Err(Reason::Word),
     }
 }

@@ -10,13 +10,13 @@ ghost use Rattle.cred_spelling.specs.Words.{line_words};
 use crate::lines::any_line;
 use cred_ids::NoMemory;
 
-/// Puts the words of the first line, which stand apart by runs of spaces, in the place of others.
-/// Returns the line, without its LF, the bytes after it, and whether each byte of the line is from
-/// 0x20 to 0x7E: of the words of another line nothing is said.
+/// Makes `words` those of the first line, which are separated by runs of spaces. Returns the line,
+/// without its LF, the bytes after it, and whether each byte of the line is from 0x20 to 0x7E. If
+/// one isn't, `words` may be any.
 ///
 /// # Errors
 ///
-/// `NoMemory` if the list cannot grow: nothing is said of the words that it has then.
+/// `NoMemory` if the list cannot grow: then `words` may be any.
 pub fn split_first_line<'b>(
     words: &mut Vec<&'b [u8]>,
     bytes: &'b [u8],
@@ -47,7 +47,7 @@ pub fn split_first_line<'b>(
     }
 }
 
-/// One more word, if there is one: two spaces have none between them.
+/// Appends a word, if there is one: two spaces have none between them.
 fn push_word<'b>(words: &mut Vec<&'b [u8]>, word: &'b [u8]) -> Result<(), NoMemory>
     ensures { OnOk result
         (nows words.new.items ≡ nows words.old.items ++ spec.some_word word.now) }

@@ -1,4 +1,4 @@
-//! The words of a line. How many there are is asked before what they spell.
+//! The words of a line. Their number is tested before what they spell.
 ghost use Rattle.std.specs.Prelude.{◌≡◌, OnOk};
 ghost use Rattle.cred_spelling.specs.Read.{Says, nows};
 ghost use Rattle.cred_spelling.specs.Words as spec;
@@ -7,11 +7,11 @@ use crate::kinds::Spelling;
 use crate::reason::Reason;
 use std::alloc::AllocError;
 
-/// Puts the words of a line, which stand apart by runs of spaces, in the place of others.
+/// Makes `words` those of a line, which are separated by runs of spaces.
 ///
 /// # Errors
 ///
-/// `AllocError` if the list cannot grow: nothing is said of the words that it has then.
+/// `AllocError` if the list cannot grow: then `words` may be any.
 pub fn split_into<'b>(words: &mut Vec<&'b [u8]>, line: &'b [u8]) -> Result<(), AllocError>
     ensures { OnOk result (nows words.new.items ≡ spec.line_words line.now) }
 {
@@ -89,7 +89,8 @@ pub fn one<A: Spelling>(words: &[&[u8]]) -> Result<A::Value, Reason>
 ///
 /// `Reason::Count` where there aren't two, then `Reason::Word`.
 #[tactic(auto, unfolding(crate::specs::Words::two_of))]
-// Most lines come by here: a call would put what the words spell into memory and read it again.
+// Most lines come through here: a call would put what the words spell into memory and read it
+// again.
 #[inline(always)]
 pub fn two<A: Spelling, B: Spelling>(words: &[&[u8]]) -> Result<(A::Value, B::Value), Reason>
     ensures { Says (λ x. x) result (spec.two_of A.spelled B.spelled (nows words.now)) }

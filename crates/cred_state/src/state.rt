@@ -15,7 +15,7 @@ ghost use Rattle.cred_sound.specs.Sound.{IsSound};
 ghost use Rattle.cred_tables.specs.Kept.{cred_under, seen_in, AreInPlace, IsInUse};
 ghost use Rattle.cred_tables.specs.Out.{AreHome, AreOut};
 
-mod casts;
+mod broadcasts;
 mod decides;
 mod enters;
 mod file_calls;
@@ -80,8 +80,8 @@ impl Model for State {
         × ArePut s.prepared s.master.loans s.master.slots };
 }
 
-/// Written out, so that it is proved here alone: of a derived one, each crate above that drops a
-/// state proves all parts anew.
+/// Written out, so that it is proved here alone: with a derived one, each crate above that drops a
+/// state would prove all parts again.
 impl Drop for State {
     fn drop(self) {
         let State {
@@ -188,12 +188,12 @@ impl State {
         }
     }
 
-    /// Makes any event, as `step` does, which makes those of calls and questions by itself.
+    /// Makes any event. `step` makes the most frequent ones without it.
     ///
     /// # Errors
     ///
     /// As `step` has them.
-    // No part of `step`: what an arm makes and passes has room there, cleared at each event.
+    // Not inlined: `step` would clear the room for what an arm makes and passes at each event.
     #[inline(never)]
     fn step_any(
         &mut self,
@@ -368,7 +368,7 @@ impl State {
         self.holds.get(label).is_some() || self.prepared.get(label).is_some()
     }
 
-    /// All references that were given up since the last sweep are dropped.
+    /// Drops all references that were given up since the last sweep.
     fn sweep(&mut self) -> Answer
         ensures made { (script : Declared) (line : ℕ)
             → Gives self.old.state (done script self.old.state line Sweep) result self.new.state }

@@ -11,8 +11,8 @@ use cred_ids::NoMemory;
 use cred_procs::{CredNumbers, Ended, Procs, TaskList};
 use std::alloc::Global;
 
-/// The tasks end that end where the task commits this change: all other threads of its process with
-/// an execve (execve(2)), and none with another change.
+/// Ends the tasks that end where this one commits this change: all other threads of its process
+/// with an execve (execve(2)), and none with another change.
 ///
 /// # Errors
 ///

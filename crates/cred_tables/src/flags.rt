@@ -43,7 +43,7 @@ fn begin_process(
     Ok(())
 }
 
-/// A first task is created: it begins its process, which is dumpable then, or is one thread more of
+/// A first task is created: it begins its process, which is dumpable then, or is another thread of
 /// it.
 ///
 /// # Errors
@@ -101,8 +101,8 @@ pub fn fork_in(
     begin_process(tasks, dump, child, process, number, dumpable)
 }
 
-/// A task has another credential from now on. Where an effective or a filesystem id is another one
-/// in that (`other`), its process is dumpable no longer.
+/// A task has another credential from now on. `other` says that an effective or a filesystem id is
+/// another one in it: then the task's process is no longer dumpable.
 #[inline(always)]
 pub fn renew_in(tasks: &Procs, dump: &mut Dump, task: u32, other: bool)
     requires { IsSome (task_in tasks.now task) }

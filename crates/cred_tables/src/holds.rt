@@ -65,7 +65,7 @@ impl Holds {
         self.numbers.push(label, number)
     }
 
-    /// A label drops the number that it held.
+    /// A label drops the number that it held. `None` where it held none, and then nothing changes.
     #[inline(always)]
     pub fn release(&mut self, label: u32) -> Option<u64>
         ensures { MatchOption result

@@ -96,7 +96,7 @@ impl<T: Drop> Labelled<T> {
         }
     }
 
-    /// A label goes, with its value. `None` where the label isn't there; then nothing changes.
+    /// Removes a label with its value. `None` where the label isn't there; then nothing changes.
     #[inline(always)]
     pub fn remove(&mut self, label: u32) -> Option<T>
         ensures value { result ≡ lookup (nat_eq label) self.old }

@@ -1,10 +1,10 @@
 //! The tables of holds and of prepared labels, and what changes several tables of the state at
 //! once. Read it as part of `cred_state`.
 //!
-//! It says too where the sealed credentials stand in the shared words.
+//! It also says where the sealed credentials stand in the shared words.
 #![tactic(auto)]
 
-mod casts;
+mod broadcasts;
 mod ends;
 mod flags;
 mod holds;
@@ -13,7 +13,7 @@ mod prepared;
 mod seal;
 mod table;
 
-pub use casts::{begin_in, spawn_in};
+pub use broadcasts::{begin_in, spawn_in};
 pub use ends::{drop_broadcast, end_with};
 pub use flags::{exit_in, fork_in, renew_in, start_in};
 pub use holds::Holds;

@@ -8,8 +8,8 @@ use crate::prepared::GivenUp;
 use cred_event::AbortCause;
 use cred_slots::Slots;
 
-/// Seals the next number in the slot that is taken next, after a sweep where one is needed, and
-/// gives the number.
+/// Seals the next number in the slot that is taken next, after a sweep where one is needed. Returns
+/// the number.
 #[inline(always)]
 pub fn seal_next(slots: &mut Slots, slot: u32) -> u64
     requires free { free_in slots.old ≡ Some slot }
@@ -42,8 +42,8 @@ pub fn sweep_at(slots: &mut Slots, cause: AbortCause)
     }
 }
 
-/// References to these numbers are given up, one for each place in the list. They count until the
-/// next sweep.
+/// Gives up references to these numbers, one for each place in the list. They count until the next
+/// sweep.
 pub fn drop_all(slots: &mut Slots, numbers: &[u64])
     requires { AreHeld numbers.now slots.old.held }
     ensures held { IsSameBag slots.old.held (numbers.now ++ slots.new.held) }

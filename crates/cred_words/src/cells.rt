@@ -126,7 +126,7 @@ fn word_count() -> usize
     1 + limits::SLOTS * WORDS
 }
 
-/// So many zeros.
+/// `n` zeros.
 fn zeros(alloc: Global, n: usize) -> Result<Vec<u64>, AllocError>
     ensures { IfOk result (λ v. v.items ≡ replicate n 0) }
 {

@@ -103,7 +103,7 @@ impl Lent {
     /// # Errors
     ///
     /// `NoMemory` if an allocation fails. All stays as it was.
-    // No call, since what it takes or gives is large, and would be moved.
+    // Inlined: a call would move what it takes or gives, which is large.
     #[inline(always)]
     pub fn decide<P: Pause>(
         &mut self,

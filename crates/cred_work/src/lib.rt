@@ -5,8 +5,8 @@
 //! for nobody.
 //!
 //! A work is an event that waits for a decision on lent credentials, with all that the decision
-//! needs, so that it can be made where no lock is held. A caller may stop it in its midst, once the
-//! words have been read.
+//! needs, so that it can be made where no lock is held. A caller may stop it once the words have
+//! been read.
 #![tactic(auto)]
 
 mod changes;

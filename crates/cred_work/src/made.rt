@@ -22,8 +22,8 @@ impl Model for BoxedMade {
     ghost view = { λ b. b.made.value };
 }
 
-/// Written out, so that it is proved here alone: of a derived one, each crate above that drops it
-/// proves all parts anew.
+/// Written out, so that it is proved here alone: with a derived one, each crate above that drops it
+/// would prove all parts again.
 impl Drop for BoxedMade {
     fn drop(self) {
         let BoxedMade { made } = self;

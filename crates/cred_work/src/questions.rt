@@ -80,7 +80,7 @@ pub fn decide<P: Pause>(
 }
 
 /// The answer to a question for which the whole credential is read.
-// A call, since each question else pays for room for a credential.
+// Not inlined, since each other question would pay for the room of a credential.
 #[inline(never)]
 fn on_whole<P: Pause>(
     alloc: Global,
@@ -122,8 +122,12 @@ fn check<P: Pause>(
     }
 }
 
-/// Whether the file may be opened so, by the parts of the credential that this asks of. What is
-/// no file may not. It calls `pause` once they have been read.
+/// Whether the file may be opened so, by the parts of the credential that this asks of: `false`
+/// where there is no file. It calls `pause` once they have been read.
+///
+/// # Errors
+///
+/// `NoMemory` if the allocation of the groups fails.
 #[inline(always)]
 pub fn may_open<P: Pause>(
     alloc: Global,
@@ -149,7 +153,7 @@ pub fn may_open<P: Pause>(
     Ok(may_by(&uid, &gid, &groups, effective, file, want))
 }
 
-/// The answer to the question whether capability n is in the set: a number of none is refused.
+/// The answer to the question whether capability n is in the set: a number above 40 is refused.
 fn flag(set: CapSet, n: u32) -> Answer
     ensures { result ≡ flag (read_in set n) }
 {

@@ -9,7 +9,7 @@ use cred_record::{FileInfo, IdList};
 use std::alloc::Global;
 use std::marker::Model;
 
-/// All of a work, which is large, or of what is asked for, for which nothing is lent.
+/// The fields of a work, which are large, or of an `Asked`, for which nothing is lent.
 #[derive(Drop)]
 pub(crate) struct Parts {
     pub(crate) line: u32,
@@ -38,8 +38,8 @@ impl Model for Asked {
     } };
 }
 
-/// Written out, so that it is proved here alone: of a derived one, each crate above that drops it
-/// proves all parts anew.
+/// Written out, so that it is proved here alone: with a derived one, each crate above that drops it
+/// would prove all parts again.
 impl Drop for Asked {
     fn drop(self) {
         let Asked { parts } = self;
@@ -78,7 +78,7 @@ impl Asked {
 
     /// The same for another line, in the memory of this one, whose file and root ids are dropped.
     /// No memory is taken.
-    // No call, since what it takes is large, and would be moved.
+    // Inlined: a call would move what it takes, which is large.
     #[inline(always)]
     pub fn again(self, line: u32, file: Option<FileInfo>, chain: IdList) -> Asked
         ensures { result ≡ record {
@@ -146,7 +146,7 @@ impl Drop for Work {
 
 impl Work {
     /// The work of the event for which these tokens are lent. No memory is taken.
-    // No call, since what it takes or gives is large, and would be moved.
+    // Inlined: a call would move what it takes or gives, which is large.
     #[inline(always)]
     pub fn of(asked: Asked, lent: Lent) -> Work
         ensures { result ≡ work_of asked lent }
@@ -157,7 +157,7 @@ impl Work {
     }
 
     /// What it was made of. No memory is taken.
-    // No call, since what it takes or gives is large, and would be moved.
+    // Inlined: a call would move what it takes or gives, which is large.
     #[inline(always)]
     pub fn apart(self) -> (Asked, Lent)
         ensures { self ≡ work_of result.0 result.1 }

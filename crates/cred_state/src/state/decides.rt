@@ -20,7 +20,7 @@ impl State {
     ///
     /// # Errors
     ///
-    /// `NoMemory` if an allocation of what is told, or of what it is told by, fails.
+    /// `NoMemory` if an allocation of groups or of a credential fails: the state is as it was.
     pub(crate) fn ask(
         &mut self,
         cells: &Cells,

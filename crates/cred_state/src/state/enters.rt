@@ -37,7 +37,7 @@ impl State {
     ///
     /// What was lent, which still is, where nothing was decided, or where there is no memory for a
     /// file that is opened. The state is as it was.
-    // No call, since what it takes or gives is large, and would be moved.
+    // Inlined: a call would move what it takes or gives, which is large.
     #[inline(always)]
     pub fn enter(&mut self, cells: &Cells, lent: Lent) -> Result<Answer, Lent>
         requires own { (self.old.words.id ≡ cells.now) × AreOf cells.now lent }
@@ -128,7 +128,7 @@ impl State {
 
     /// What a label prepares is changed as it was decided, or stays as it was where the change is
     /// refused. Both tokens come back.
-    // No call, since what it takes or gives is large, and would be moved.
+    // Inlined: a call would move what it takes or gives, which is large.
     #[inline(always)]
     pub(super) fn enter_alter(
         &mut self,
@@ -158,7 +158,7 @@ impl State {
     }
 
     /// The same, while the base is still lent.
-    // No call, since what it takes or gives is large, and would be moved.
+    // Inlined: a call would move what it takes or gives, which is large.
     #[inline(always)]
     fn enter_change(
         &mut self,
@@ -244,7 +244,7 @@ impl State {
         }
     }
 
-    /// What a question is answered, where this was told of the credential that its label holds.
+    /// The answer to a question: `told`, which was decided on the credential that its label holds.
     pub(crate) fn enter_ask(&self, label: u32, told: Answer) -> Answer
         ensures { (query : Asked)
             → IfSome (held_by self.now.state label) (λ held.

@@ -11,7 +11,13 @@ use cred_ids::{NoMemory, limits};
 use cred_tables::Numbered;
 
 impl State {
-    /// A label holds the credential that a task acts with, or is acted on by.
+    /// The label takes hold of the credential that a task acts with, or is acted on by. The
+    /// refusals leave the state.
+    ///
+    /// # Errors
+    ///
+    /// `NoMemory` if an allocation of room for the hold or for its reference fails: the state is as
+    /// it was.
     #[inline(never)]
     pub(super) fn take(&mut self, label: u32, task: u32, side: Side) -> Result<Answer, NoMemory>
         ensures ok { IfOk result (λ answer.
@@ -26,6 +32,10 @@ impl State {
     }
 
     /// The label takes hold of the credential of this number, which stands in this slot.
+    ///
+    /// # Errors
+    ///
+    /// As `take` has them.
     #[inline(always)]
     pub(super) fn take_hold(
         &mut self,
@@ -55,7 +65,7 @@ impl State {
         Ok(Answer::Sealed { cred: number, slot })
     }
 
-    /// A label holds its credential no longer.
+    /// The label drops what it holds. `NoHold` leaves the state.
     #[inline(never)]
     pub(super) fn release(&mut self, label: u32) -> Answer
         ensures made { Gives self.old.state (by_release self.old.state label) result

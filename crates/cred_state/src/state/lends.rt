@@ -23,7 +23,7 @@ const NO_NS: u32 = u32::MAX;
 impl State {
     /// Lends what the event is decided on, under the labels that it names: nothing where it isn't
     /// decided so, or where a label that it names isn't there. It takes no memory.
-    // No call, since what it takes or gives is large, and would be moved.
+    // Inlined: a call would move what it takes or gives, which is large.
     #[inline(always)]
     pub fn lend(&mut self, cells: &Cells, event: &Event) -> Option<Lent>
         requires own { self.old.words.id ≡ cells.now }
@@ -173,7 +173,7 @@ impl State {
 
     /// Lends the base of what the label prepares, and a writer of the slot that is kept for it.
     /// `None` where it prepares nothing.
-    // No call, since what it takes or gives is large, and would be moved.
+    // Inlined: a call would move what it takes or gives, which is large.
     #[inline(always)]
     pub(super) fn lend_kept(&mut self, cells: &Cells, label: u32) -> Option<(Hold, Writer)>
         requires own { self.old.words.id ≡ cells.now }

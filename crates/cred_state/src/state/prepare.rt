@@ -111,8 +111,8 @@ impl State {
     /// than its current one, leave the state. `Stale` comes where the task's current credential
     /// isn't the base any more: then the label is given up.
     ///
-    /// Where an effective or a filesystem id is another one than before, the task's process is
-    /// dumpable no longer; otherwise an execve makes it dumpable, unless the permitted set grows
+    /// Where an effective or a filesystem id is another one than before, the task's process is no
+    /// longer dumpable; otherwise an execve makes it dumpable, unless the permitted set grows
     /// (prctl(2), PR_SET_DUMPABLE).
     ///
     /// # Errors

@@ -1,5 +1,5 @@
-//! An id call that a task makes for itself alone: the system call without its C library, which
-//! would let the other threads of the process follow (nptl(7)).
+//! An id call that a task makes for itself alone: the system call without its wrapper in the C
+//! library, which would let the other threads of the process follow (nptl(7)).
 ghost use Rattle.std.specs.Prelude.{◌≡◌, Ok, IfOk, MatchResult, OnErr};
 ghost use Rattle.cred_record.specs.declared.id_call.IdCall.{IdCall as Call};
 ghost use Rattle.cred_record.specs.Credential.{AreValidSets};
@@ -65,8 +65,8 @@ impl State {
     }
 
     /// The call of a task that may make it, which gives the task's current credential these parts,
-    /// and these groups where it sets them. Where an effective or a filesystem id is another one in
-    /// these (`other`), the task's process is dumpable no longer.
+    /// and these groups where it sets them. `other` says that an effective or a filesystem id is
+    /// another one in these: then the task's process is no longer dumpable.
     fn raw_with(
         &mut self,
         cells: &Cells,
@@ -106,7 +106,7 @@ impl State {
     }
 
     /// The current credential of a task that makes an id call for itself alone. `Err` with what
-    /// refuses the call before its own rule is asked.
+    /// refuses the call before its own rule is applied.
     fn may_call_alone(&self, task: u32) -> Result<Numbered, Answer>
         ensures { MatchResult result
             (λ now. MayCallAlone self.now.state task (seen_in self.now.state.creds now))

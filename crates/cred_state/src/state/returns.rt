@@ -31,7 +31,7 @@ impl State {
 
     /// Takes back the writer of the slot that the label keeps. What it has put was made by this
     /// change, which is the label's last from now on.
-    // No call, since what it takes or gives is large, and would be moved.
+    // Inlined: a call would move what it takes or gives, which is large.
     #[inline(always)]
     pub(crate) fn change_to(&mut self, cells: &Cells, label: u32, to: Changed, writer: Writer)
         requires own { (self.old.words.id ≡ cells.now) × (writer.id ≡ cells.now) }

@@ -98,8 +98,8 @@ impl State {
     }
 
     /// The call of a task that may make it, which gives the task's current credential these parts,
-    /// and these groups where it sets them. Where an effective or a filesystem id is another one in
-    /// these (`other`), the task's process is dumpable no longer.
+    /// and these groups where it sets them. `other` says that an effective or a filesystem id is
+    /// another one in these: then the task's process is no longer dumpable.
     fn begin_with(
         &mut self,
         cells: &Cells,
@@ -146,7 +146,7 @@ impl State {
         })
     }
 
-    /// The least thread that waits in the broadcast makes the call of it on its own current
+    /// The least thread that waits in the broadcast makes the broadcast's call on its own current
     /// credential. `NoBroadcast` leaves the state. Where the call is refused, or where no slot is
     /// free even after a sweep, all threads of the process end and the broadcast is dropped.
     ///
@@ -174,8 +174,8 @@ impl State {
                 let other = differs_by(&own.uid, &own.gid, &parts.uid, &parts.gid);
                 self.act_with(cells, number, next, &parts, &groups, other)
             }
-            // Whether a call is valid is the call's alone, and its caller has made it: what the
-            // thread lacks is the right.
+            // `Invalid` depends on the call alone, which its caller has made: so what the thread
+            // meets is `Perm`.
             Err(Refusal::Perm | Refusal::Invalid) => {
                 self.end_process_of(next.task, AbortCause::Perm)
             }
@@ -203,8 +203,8 @@ impl State {
     }
 
     /// The step of the thread that is next, where the call gives its current credential these
-    /// parts, and these groups where it sets them. Where an effective or a filesystem id is another
-    /// one in these (`other`), its process is dumpable no longer.
+    /// parts, and these groups where it sets them. `other` says that an effective or a filesystem
+    /// id is another one in these: then its process is no longer dumpable.
     fn act_with(
         &mut self,
         cells: &Cells,
@@ -301,7 +301,7 @@ impl State {
     }
 
     /// The current credential of a task that makes an id call. `Err` with what refuses the call
-    /// before its own rule is asked.
+    /// before its own rule is applied.
     fn may_begin(&self, line: u32, task: u32) -> Result<Numbered, Answer>
         ensures { MatchResult result
             (λ now. MayBegin self.now.state line task (seen_in self.now.state.creds now))

@@ -11,7 +11,7 @@ use Rattle.cred_procs.specs.Tasks.{task_in, those}
 use Rattle.cred_tables.specs.Begin.{HasBegun, broadcast_begun}
 use Rattle.cred_tables.proofs.Begun.{begun_broadcasts, few_those}
 use Rattle.cred_tables.proofs.Owners.{has_process, owner_process}
-use Rattle.cred_tables.proofs.casts.begin_in.Goals as goal
+use Rattle.cred_tables.proofs.broadcasts.begin_in.Goals as goal
 
 pub unwrap-process-requires : goal.unwrap-process-requires
 unwrap-process-requires c = has_process c.requires.owner c.requires.lives c.process_of.ensures

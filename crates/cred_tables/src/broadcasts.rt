@@ -11,8 +11,8 @@ use cred_ids::NoMemory;
 use cred_procs::Procs;
 use cred_record::IdCall;
 
-/// A task has made an id call: the other threads of its process wait for their step. Gives how many
-/// they are. Where it has none, the broadcast is completed at once.
+/// A task has made an id call: the other threads of its process wait for their step. Returns how
+/// many they are. Where it has none, the broadcast is completed at once.
 ///
 /// # Errors
 ///

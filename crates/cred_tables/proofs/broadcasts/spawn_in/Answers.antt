@@ -1,7 +1,7 @@
 use Rattle.std.proofs.Common.{◌∙◌, ap}
 use Rattle.cred_model.specs.Ends.{is_task, survivors}
 use Rattle.cred_tables.proofs.Spawns.{spawn_undone}
-use Rattle.cred_tables.proofs.casts.spawn_in.Goals as goal
+use Rattle.cred_tables.proofs.broadcasts.spawn_in.Goals as goal
 
 -- where the broadcasts had no memory, the thread is gone again
 pub returns-in-Err-clause-no_tasks : goal.returns-in-Err-clause-no_tasks
