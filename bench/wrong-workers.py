@@ -20,9 +20,9 @@ from pathlib import Path
 
 TOP = Path(__file__).resolve().parent.parent
 TESTS = "crates/cred_rows/src/tests"
-TEST = "tests::gates::lanes_meet_at_their_decisions"
+TEST = "tests::lanes::lanes_meet_at_their_decisions"
 # The modules that the meetings use. The tests of the others are left out of the copy.
-MODULES = ("crowd", "cuts", "faults", "gate", "gates", "meetings", "runs")
+MODULES = ("crowd", "cuts", "faults", "gate", "lanes", "meetings", "runs")
 # How long the meetings may take, in seconds. A lane that waits in vain takes some thirty; on a busy
 # machine many more.
 LIMIT = 1200
@@ -53,7 +53,7 @@ MAP = """\
         &|turn: Turn<K>| -> Result<Turn<K>, NoMemory>
             requires { turn.numbers.out ≡ None }
             ensures { IfOk result (Finished K.script turn) }
-        { work(rt, alloc, kernel, gate, turn) },
+        { run_lane(rt, alloc, kernel, gate, turn) },
     )?;
 """
 USES_MAP = "use std::thread;\n"
@@ -104,14 +104,14 @@ def passes_over(lent):
 ONE_BY_ONE = """\
     let mut done = Vec::new(alloc);
     for turn in turns.into_turns() {
-        done.push(work(rt, alloc, kernel, gate, turn))?;
+        done.push(run_lane(rt, alloc, kernel, gate, turn))?;
     }
 """
 FROM_THE_LAST = """\
     let mut left = turns.into_turns();
     let mut done = Vec::new(alloc);
     while let Some(turn) = left.pop() {
-        done.push(work(rt, alloc, kernel, gate, turn))?;
+        done.push(run_lane(rt, alloc, kernel, gate, turn))?;
     }
     done.reverse();
 """
@@ -295,7 +295,7 @@ def copied(folder):
     for file in tests.rglob("*.rt"):
         if file.stem not in (*MODULES, "mod"):
             file.unlink()
-        elif file.stem != "gates":
+        elif file.stem != "lanes":
             # A test stands last in its file.
             file.write_text(file.read_text().partition("#[test]\n")[0])
     used = [it for it in (tests / "mod.rt").read_text().splitlines()

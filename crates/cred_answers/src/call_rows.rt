@@ -81,7 +81,7 @@ pub(crate) fn raw_row(call: &IdCall, answer: &Answer) -> bool
     }
 }
 
-/// Whether the number is none that the change takes.
+/// Whether the change can't take the number.
 fn is_wrong(call: AdjCall) -> bool
     ensures { result ≡ spec.is_wrong call }
 {

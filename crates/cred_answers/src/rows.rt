@@ -92,14 +92,14 @@ fn prepare_row(answer: &Answer) -> bool
     )
 }
 
-/// Setfsuid(2) and setfsgid(2), which are never refused.
+/// A change by setfsuid(2) or setfsgid(2), which are never refused.
 fn setfs_row(answer: &Answer) -> bool
     ensures { result ≡ spec.setfs_row answer.now }
 {
     matches!(answer, Answer::NoPrepared(_) | Answer::Was { .. })
 }
 
-/// Execve(2).
+/// A change by execve(2).
 fn exec_row(answer: &Answer) -> bool
     ensures { result ≡ spec.exec_row answer.now }
 {
@@ -270,7 +270,7 @@ fn dumped_row(answer: &Answer) -> bool
     matches!(answer, Answer::NoTask(_) | Answer::Told(Told::Flag(_)))
 }
 
-/// What a change may be answered.
+/// Whether a change may be given this answer.
 fn may_change(change: Change, answer: &Answer) -> bool
     ensures { result ≡ spec.may_answer_change change answer.now }
 {

@@ -65,7 +65,7 @@ fn check_row(answer: &Answer) -> bool
     matches!(answer, Answer::NoHold(_) | Answer::Eacces | Answer::Done)
 }
 
-/// What a question may be answered.
+/// Whether a question may be given this answer.
 pub(crate) fn may_tell(query: Query, answer: &Answer) -> bool
     ensures { result ≡ spec.may_tell query answer.now }
 {

@@ -72,7 +72,7 @@ fn is_plain(word: &[u8]) -> bool
 ///
 /// # Errors
 ///
-/// clap's fault of the words, and `OutOfMemory` if an allocation fails.
+/// What clap refuses the words by, and `OutOfMemory` if an allocation fails.
 fn match_words<'a>(alloc: Global, words: &'a [String]) -> Result<ArgMatches<'a>, Error>
     ensures { Finds (map string_bytes words.now) result }
 {

@@ -102,7 +102,7 @@ same_line script e f m n p q few h k is =
 
 -- ---- the number, read
 
--- the first blank behind digits
+-- the first blank after digits
 blank_behind : (ds rest : List ℕ) → all_ascii_digits ds ≡ true → position_or_len (λ b. b == 32) (ds ++ 32 ∷ rest) ≡ length ds
 blank_behind [] rest h = refl
 blank_behind (d ∷ ds) rest h =

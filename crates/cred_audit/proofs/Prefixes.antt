@@ -11,7 +11,7 @@ use Rattle.cred_report.specs.Text.{entry_text, text}
 use Rattle.cred_audit.specs.Next.{ComesNext}
 use Rattle.cred_audit.proofs.Numbers.{same_line}
 
--- these entries come one after another behind those that are done
+-- these entries come one after another after those that are done
 abbrev Comes : Script → List Entry → List Entry → Type 0
 Comes script done [] = ⊤
 Comes script done (entry ∷ entries) = ComesNext script done entry × Comes script (done ++ entry ∷ []) entries

@@ -30,7 +30,7 @@ impl Run {
         Ok(Run { state, cursors })
     }
 
-    /// Makes the next event of a lane, and answers its entry; none where no line of the lane is
+    /// Makes the next event of a lane, and returns its entry; none where no line of the lane is
     /// left, or where the lane waits for the setup. The script is that of the run.
     ///
     /// # Errors

@@ -12,7 +12,7 @@ use cred_report::{Pen, prepend};
 use cred_script::Script;
 use std::alloc::Global;
 
-/// What is said of a report.
+/// Whether a report is its script's.
 #[derive(Clone, Copy, PartialEq, Eq, Debug)]
 pub enum Verdict {
     /// It is the text of a legal journal of the script.
@@ -24,8 +24,9 @@ pub enum Verdict {
     },
 }
 
-/// Whether the bytes are the report of a run of the script, and else which entry is the first that
-/// is wrong. A script with lanes has many such reports: each that keeps the order of every lane.
+/// Whether the bytes are the report of a run of the script, and if not, which entry is the first
+/// that is wrong. A script with lanes has many such reports: each that keeps the order of every
+/// lane.
 ///
 /// # Errors
 ///
@@ -64,7 +65,7 @@ fn compare(
     })
 }
 
-/// Makes the next event of the lane whose line's number the bytes begin with, and answers what
+/// Makes the next event of the lane whose line's number the bytes begin with, and returns what
 /// follows the text of its entry; none where the bytes do not begin with it.
 fn behind_next<'b>(
     run: &mut Run,

@@ -153,7 +153,7 @@ counted_one script ended number line so at small over within = record {
               omega (arith, so.sums lane, left, none, other)
         ]
 
--- behind the last line
+-- after the last line
 pub counted_all : (script : Script) (ended : List ℕ) (number : ℕ) → IsCounted script ended number → line_at script number ≡ None → AreEnded script [] ended
 counted_all script ended number so none lane =
     let left = ap (ended_from [] lane number) (drop_past script.lines (number - 1) (sym (place_of script number so.first) ∙ none)) in

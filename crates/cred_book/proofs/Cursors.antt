@@ -64,7 +64,7 @@ sum_moved f cursors lane course to is =
     ap (λ c. sum_by f (set cursors lane to) + f c) (sym (get_or_from_slice_get cursors lane (Some course) None at))
     ∙ sum_by-set f cursors lane to None (slice_get_within cursors lane (Some course) at)
 
--- the event that is due has an entry, and fewer steps are left behind it
+-- the event that is due has an entry, and fewer steps are left after it
 entry_falls : (script : Script) (journal : List Entry) (cursors : List (Option Course)) (lane : ℕ) (course : Course) (event : Event) (to : Option Course)
     → AreCursors script journal cursors → due_of cursors lane ≡ Some course
     → option_and_then (λ (line : Line). event_at line.content course) (line_at script course.line) ≡ Some event

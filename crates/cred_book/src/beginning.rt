@@ -20,8 +20,8 @@ use cred_script::Script;
 use cred_state::State;
 use std::alloc::Global;
 
-/// A state of which nothing has run, the cells under it, and a script's cursors and counts, without
-/// the script.
+/// What a book has before its first event, but for the script: the state, the cells under it, an
+/// empty journal, the cursors and the counts.
 #[derive(Drop)]
 pub(crate) struct Beginning {
     pub(crate) state: State,
@@ -32,8 +32,8 @@ pub(crate) struct Beginning {
     pub(crate) outs: Vec<Option<u32>>,
 }
 
-/// All that a book of the script has but the script, which is only lent: so it isn't dropped on
-/// each way out of here.
+/// What a book of the script has before its first event. The script is only lent, so that it isn't
+/// dropped on each way out of here.
 ///
 /// # Errors
 ///

@@ -77,8 +77,8 @@ impl Model for Book {
         × AreOut (replay b.script b.journal.items) b.state.words.out };
 }
 
-/// Written out, so that it is proved here alone: of a derived one, each crate above that drops a
-/// book proves all parts anew.
+/// Written out, so that it is proved here alone: with a derived one, each crate above that drops a
+/// book would prove all parts again.
 impl Drop for Book {
     fn drop(self) {
         let Book {
@@ -102,7 +102,7 @@ impl Drop for Book {
 }
 
 impl Book {
-    /// The book of a script of which nothing has run, and the cells that its credentials stand in.
+    /// The book of a script before its first event, and the cells that its credentials stand in.
     /// Its cursors and its counts of ended lines are the journal's. No work is out.
     ///
     /// # Errors
@@ -201,9 +201,9 @@ impl Book {
         self.state.uses(slot)
     }
 
-    /// Enters one event of a line, and answers it with a copy of the entry's answer. The cursors
-    /// stay, and so does what is lent. The event names only declared files and namespaces, and no
-    /// label under which something is lent.
+    /// Enters one event of a line, and returns a copy of the entry's answer. The cursors stay, and
+    /// so does what is lent. The event names only declared files and namespaces, and no label under
+    /// which something is lent.
     ///
     /// # Errors
     ///
@@ -244,11 +244,12 @@ impl Book {
         Ok(copied)
     }
 
-    /// Makes the next event of a lane, whose lines come whole, one after another. All other lanes
+    /// Makes the next event of a lane, whose lines run in order, each to its end. All other lanes
     /// wait for the setup, lane 0. An event that waits for a decision on credentials isn't entered:
     /// its work goes out, and the lane's next step is the one that finishes it.
     ///
-    /// The cursors and the counts of ended lines are the journal's before, and stay so.
+    /// The cursors and the counts of ended lines are those of the journal, before the call and
+    /// after it.
     ///
     /// # Errors
     ///
@@ -301,7 +302,7 @@ impl Book {
     }
 
     /// Each credential that something refers to, after the journal, stands in the words of its
-    /// slot. Nothing runs: the state is read for what it says alone.
+    /// slot. Nothing runs: it is called for its clause alone.
     #[inline(always)]
     fn stands(&self)
         ensures { AreInPlace (replay self.now.script self.now.journal) self.now.places }
@@ -309,7 +310,7 @@ impl Book {
         self.state.stands();
     }
 
-    /// Enters the next event of a lane's course, and answers the lane's cursor after it; the book's
+    /// Enters the next event of a lane's course, and returns the lane's cursor after it; the book's
     /// own stay. The answer moves into the entry, where `event` makes a copy of it.
     // Called for each event of a lane, from one place of it.
     #[inline(always)]

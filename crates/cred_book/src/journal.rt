@@ -16,10 +16,10 @@ pub struct Journal {
 }
 
 /// How many entries a line makes in most scripts, or fewer.
-const MOSTLY: usize = 2;
+const ENTRIES_A_LINE: usize = 2;
 
-/// No entries yet, with room for those of most scripts: a list that has to grow is moved, and each
-/// page of its new place costs the kernel a fault.
+/// An empty list, with room for the entries of most scripts: a list that has to grow is moved, and
+/// each page that it moves to costs a page fault.
 ///
 /// # Errors
 ///
@@ -27,5 +27,5 @@ const MOSTLY: usize = 2;
 pub(crate) fn room_for_entries(alloc: Global, script: &Script) -> Result<Vec<Entry>, NoMemory>
     ensures { IfOk result (λ entries. entries.items ≡ []) }
 {
-    Ok(Vec::with_capacity(alloc, MOSTLY * script.lines() as usize)?)
+    Ok(Vec::with_capacity(alloc, ENTRIES_A_LINE * script.lines() as usize)?)
 }

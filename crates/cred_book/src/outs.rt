@@ -1,4 +1,4 @@
-//! What a book keeps of the works that are out, and what a work has a copy of.
+//! The lines whose works are out, and the copy of a file that a work gets.
 ghost use Rattle.std.specs.Prelude.{◌≡◌, ◌+◌, IfOk, None, replicate};
 ghost use Rattle.cred_script.specs.Lanes.{lanes};
 

@@ -44,7 +44,7 @@ pub record Goes (script : Script) (past : ℕ) (before now : State) (had has : L
   pub own : line.content ≡ content
   pub on : (journal : List Entry) → IsAfter script journal past before → IsOn script (journal ++ made) line course now
 
--- so a line leaves no more to those behind it than there may be
+-- so a line leaves no more to those after it than there may be
 few_first : (script : Script) (past : ℕ) (line : Line) (content : Content) → slice_get script.lines past ≡ Some line
     → left_at script (Some (start (past + 1) content)) ≤ LINE_EVENTS * (length script.lines - past)
 few_first script past line content here =

@@ -1,4 +1,4 @@
--- A run in order whose entries are told of as they come.
+-- A run in order whose entries are summed up as they come.
 use Rattle.std.proofs.Common.{◌≡◌, ℕ, ◌+◌, ◌≤◌, List, [], ◌++◌, length, sym, ap, ◌∙◌, subst, arith}
 use Rattle.std.proofs.lemmas.List.{length-append}
 use Rattle.cred_event.specs.declared.entry.Entry.{Entry}
@@ -12,7 +12,7 @@ use Rattle.cred_commands.specs.Order.{HasRun, IsAfter, RunsOn, most_left}
 use Rattle.cred_commands.proofs.Ends.{is_whole, nothing_run}
 use Rattle.cred_commands.specs.Summing.{TellsSequence}
 
--- So many lines have run, and all their entries were told of; there are no more than there may be.
+-- So many lines have run, and all their entries were summed up; there are no more than there may be.
 pub record Told (script : Script) (past : ℕ) (state : State) (told : Summary) : Type 0 where
   pub done : List Entry
   pub after : IsAfter script done past state

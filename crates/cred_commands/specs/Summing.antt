@@ -20,8 +20,7 @@ pub record IsCount (n : ℕ) : Type 0 where
   pub some : 1 ≤ n
   pub few : n ≤ CALLS
 
--- What is told is the summary of the journal in which all lines of the script run whole and in
--- order.
+-- The summary of the journal in which all lines of the script run whole and in order.
 abbrev pub TellsSequence : Script → Summary → Type 0
 TellsSequence script told =
     (journal : List Entry) × IsSequence script journal × (told ≡ summary script journal)

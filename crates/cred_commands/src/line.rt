@@ -9,8 +9,8 @@ use cred_ids::NoMemory;
 use cred_script::Script;
 use cred_state::State;
 
-/// Runs one line to its end, the one that follows those that have run, `past` of them, and adds its
-/// entries to these.
+/// Runs the next line to its end, the one after the `past` lines that have run, and appends its
+/// entries.
 ///
 /// # Errors
 ///
@@ -30,7 +30,8 @@ pub fn run_line(
         entries.old.items entries.new.items) }
     ensures words { state.new.words ≡ state.old.words }
 {
-    // It is asked for its limit alone: the number after `past` is no greater.
+    // Called for its clause alone: no script has more lines than the limit, so there is a next
+    // number.
     let _ = script.lines();
     let number = past + 1;
     let Some((_, content)) = script.line(number) else {
@@ -39,14 +40,14 @@ pub fn run_line(
     let mut course = Course::start(number, content);
     'events: while let Some(event) = course.event(content)? {
         entries.reserve(1)?;
-        // The answer goes to its place at once, and is read there.
+        // The answer is written to its place at once, and read there.
         let place = entries.len();
         entries.push_reserved(Entry {
             line: number,
             answer: state.step(cells, script, number, &event)?,
             event,
         });
-        course.took(content, &entries[place].answer);
+        course.advance(content, &entries[place].answer);
     }
     Ok(())
 }

@@ -49,7 +49,7 @@ fn write_some<K: Sink>(
     Ok(())
 }
 
-/// Runs the script's lines in order, on the state in which nothing has run, and writes the text of
+/// Runs the script's lines in order, on the state before its first event, and writes the text of
 /// their entries.
 ///
 /// # Errors
@@ -108,7 +108,7 @@ fn write_in_order<K: Sink>(alloc: Global, sink: &mut K, script: &Script) -> Resu
     written
 }
 
-/// The same, and says how the command ends.
+/// The same, and returns how the command ends.
 fn report_in_order<K: Sink>(alloc: Global, sink: &mut K, script: &Script) -> Status
     ensures done { result ≡ Status.Done
         → AppendsSequence script.now (K.written sink.old) (K.written sink.new) }
@@ -134,7 +134,7 @@ pub fn read_and_run<S: Source, K: Sink>(alloc: Global, source: &mut S, sink: &mu
     match read_script(alloc, source, sink) {
         Ok(script) => {
             let status = report_in_order(alloc, sink, &script);
-            // The program ends next, and its memory goes with it: no line is taken apart.
+            // The program ends next, and its memory with it: so no line is freed.
             forget(script);
             status
         }

@@ -25,20 +25,20 @@ pub fn run_gen<K: Sink>(alloc: Global, n: u32, sink: &mut K) -> Status
     tell_said(sink, say(alloc, n))
 }
 
-/// What is said of the script.
+/// The text of the script's summary, with its status.
 fn say(alloc: Global, n: u32) -> Result<Said, NoMemory>
     requires { IsCount n }
     ensures { IfOk result (λ said. SaysSummary n said.status said.text.items) }
 {
     let script = generate(alloc, n)?;
-    let told = tell_in_order(alloc, &script);
+    let summary = sum_in_order(alloc, &script);
     drop(script);
-    Ok(Said::of(Status::Done, summary_text(alloc, told?)?))
+    Ok(Said::of(Status::Done, summary_text(alloc, summary?)?))
 }
 
-/// What is told of the run in which all lines of the script run whole and in order, on this state,
-/// in which nothing has run. No journal is kept.
-fn tell_lines(
+/// The summary of the run in which all lines of the script run whole and in order, on this state,
+/// before its first event. No journal is kept.
+fn sum_lines(
     alloc: Global,
     script: &Script,
     state: &mut State,
@@ -49,29 +49,29 @@ fn tell_lines(
     requires opening { state.old.state ≡ opening script.now }
     ensures { IfOk result (λ told. TellsSequence script.now told) }
 {
-    let mut told = Summary::new(script);
+    let mut summary = Summary::new(script);
     let mut entries = Vec::new(alloc);
     let mut past = 0;
     'lines: while past < script.lines() {
         run_line(state, cells, script, past, &mut entries)?;
-        told.add(&entries);
+        summary.add(&entries);
         entries.clear();
         past += 1;
     }
-    Ok(told)
+    Ok(summary)
 }
 
 /// The same, on a state of its own: to own one is expensive to prove, so nothing else is done here.
-fn tell_in_order(alloc: Global, script: &Script) -> Result<Summary, NoMemory>
+fn sum_in_order(alloc: Global, script: &Script) -> Result<Summary, NoMemory>
     ensures { IfOk result (λ told. TellsSequence script.now told) }
 {
     let (cells, mut state) = State::new(alloc, script)?;
-    let told = tell_lines(alloc, script, &mut state, &cells);
+    let summary = sum_lines(alloc, script, &mut state, &cells);
     drop(state);
-    told
+    summary
 }
 
-/// The text that tells a summary.
+/// The text of a summary.
 fn summary_text(alloc: Global, told: Summary) -> Result<String, NoMemory>
     ensures { IfOk result (λ text. string_bytes text ≡ spec.summary_text told) }
 {

@@ -83,7 +83,7 @@ past script journal lane course at over =
 
 -- ---- from line to line
 
--- the line behind those that are past
+-- the line after those that are past
 line_behind : (script : Script) (number : ℕ) (line : Line) → line_at script (number + 1) ≡ Some line → slice_get script.lines number ≡ Some line
 line_behind script number line following = sym (line_at-place script number) ∙ following
 
@@ -150,7 +150,7 @@ first_of_lane script lane to from = from.stands [] (record {
 
 -- ---- over the lines
 
--- behind the one line, where those of the lane's lines that come before the other have ended at once
+-- after the one line, where those of the lane's lines that come before the other have ended at once
 pub record Reaches (script : Script) (lane : ℕ) (from number : ℕ) : Type 0 where
   pub stands : (journal : List Entry) → IsPastInLane script journal lane from → IsPastInLane script journal lane number
   pub on : from ≤ number

@@ -7,7 +7,7 @@ use Rattle.cred_event.specs.declared.entry.Entry.{Entry}
 use Rattle.cred_model.specs.Script.{Line}
 use Rattle.cred_model.specs.Journal.{Due, next_event, first_due}
 
--- the event that is due of the line at a number, or what is due of those behind it
+-- the event that is due of the line at a number, or what is due of those after it
 abbrev due_or : ℕ → Option Event → Option Due → Option Due
 due_or n event rest = option_map_or (λ event. Some (record { line = n; event = event })) event rest
 

@@ -21,7 +21,7 @@ pub fn first_cursor(script: &Script, lane: u32) -> Option<Course>
 }
 
 /// The next event of the course's line. It names only declared files and namespaces, and gives only
-/// what is a mode, as its line does. `None` where the line has ended.
+/// valid modes, as its line does. `None` where the line has ended.
 ///
 /// # Errors
 ///
@@ -57,7 +57,7 @@ pub fn cursor_after(script: &Script, lane: u32, course: Course, answer: &Answer)
 {
     let (_, content) = script.line(course.line())?;
     let mut course = course;
-    course.took(content, answer);
+    course.advance(content, answer);
     first_left(script, lane, course)
 }
 

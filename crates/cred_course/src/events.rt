@@ -20,6 +20,10 @@ pub(crate) fn makes_events(content: &Content) -> bool
 }
 
 /// The event of a stage, or none where a line with this content has no such stage.
+///
+/// # Errors
+///
+/// `NoMemory` where the list of a `setgroups`, or the bytes of an attribute, could not be copied.
 #[inline(always)]
 pub(crate) fn event_in(
     line: u32,
@@ -103,7 +107,7 @@ fn take(label: u32, task: u32) -> Option<Event>
     })
 }
 
-/// The event of a call on a file, which the hold decides.
+/// The event of a call on a file, which is decided on the hold's credential.
 fn calling(hold: u32, call: &FileCall) -> Result<Event, NoMemory>
     ensures event { IfOk result (λ event. event ≡ spec.calling hold call.now) }
     ensures refusal { OnErr result (EventHoldsList (spec.calling hold call.now)) }
@@ -160,7 +164,7 @@ fn open_event(line: u32, task: u32, file: u32, want: Want, fd: u32, stage: Stage
     }
 }
 
-/// None of them names the task.
+/// A question about a capability of a file's opener. None of its events names the task.
 fn fcap_event(line: u32, fd: u32, cap: u32, stage: Stage) -> Option<Event>
     requires { line ≤ LINE_LIMIT }
     ensures { (task : ℕ) → result ≡ spec.event_in line (content.Fcap task fd cap) stage }

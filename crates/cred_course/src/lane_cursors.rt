@@ -35,7 +35,7 @@ impl Model for Cursors {
 }
 
 impl Cursors {
-    /// The cursors of a script of which nothing has run.
+    /// The cursors of a script before its first event.
     ///
     /// # Errors
     ///
@@ -77,7 +77,7 @@ impl Cursors {
         self.cursors.iter().all(|cursor| cursor.is_none())
     }
 
-    /// The lane of the least line that is left; none where no lane has a line left.
+    /// The lane of the least line that is left; none where none is.
     pub fn least(&self) -> Option<u32>
         ensures { MatchOption result (AreOver self.now) (IsLeast self.now) }
     {
@@ -85,7 +85,7 @@ impl Cursors {
     }
 }
 
-/// The lane of the least line on which a cursor stands; none where none stands on one.
+/// The lane of the least line on which a cursor stands; none where no lane has a cursor.
 fn least_of(cursors: &[Option<Course>]) -> Option<u32>
     requires { length cursors.now ≤ LAST_LANE + 1 }
     ensures { MatchOption result (AreOver cursors.now) (IsLeast cursors.now) }

@@ -1,7 +1,7 @@
-//! The courses of lines: which events a line makes, one after another, each by the answers that it
-//! had so far; and how far a run has come in which the lines of each lane come whole, one after
-//! another: a cursor for each lane, the course of its first line that has not ended. Between two
-//! events of a lane's line those of other lanes may come.
+//! The courses of lines: which events a line makes, one after another, each chosen by the answers
+//! so far. And how far a run has come: a cursor for each lane, the course of its first line that
+//! has not ended. Each lane runs its lines in order, each to its end; between two events of a line
+//! those of other lanes may come.
 //!
 //! What a course is, is defined in `cred_model`. `specs/Cursor` says which cursor of a lane is that
 //! of a journal, `specs/LaneCursors` which lane waits for the setup. The functions of a cursor are

@@ -113,7 +113,7 @@ pub passed_all : (input rest : List ℕ) → Passed input rest → length rest �
 passed_all input [] before over = rw (before.all ∙ append-nil before.lines, before.none) refl
 passed_all input (b ∷ bs) before over = absurd (omega arith)
 
--- What follows a line of the same length, behind the bytes before it.
+-- What follows a line of the same length, after the bytes before it.
 after_at : (prefix rest line : List ℕ) → length line ≡ length REPORT
     → drop (length (prefix ++ with_line_feed REPORT)) (prefix ++ rest) ≡ drop (length line + 1) rest
 after_at prefix rest line same =

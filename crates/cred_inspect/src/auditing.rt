@@ -1,4 +1,4 @@
-//! Saying whether a report is the report of a script.
+//! Whether a report is the report of a script.
 ghost use Rattle.std.specs.Prelude.{◌≡◌, ◌≢◌, ◌≤◌, ◌⊎◌, IfOk, MatchBool};
 ghost use Rattle.std.specs.Prelude.{length, string_bytes};
 ghost use Rattle.std.specs.Option.{option_map};
@@ -20,7 +20,7 @@ use cred_said::{Said, Status, bad_line, tell_said};
 use std::alloc::Global;
 use std::mem::forget;
 
-/// Reads an input to its end, and says whether its report is its script's.
+/// Reads an input to its end, and writes whether its report is its script's.
 pub fn read_and_audit<S: Source, K: Sink>(alloc: Global, source: &mut S, sink: &mut K) -> Status
     ensures verdict { LeavesVerdict result (S.left source.old) (S.left source.new)
         (K.written sink.old) (K.written sink.new) }
@@ -37,8 +37,8 @@ pub fn read_and_audit<S: Source, K: Sink>(alloc: Global, source: &mut S, sink: &
     }
 }
 
-/// Says whether the report in an input is its script's, or where it goes wrong, or why there
-/// is nothing to be said; writes nothing where the script is too large.
+/// Writes whether the report in an input is its script's, or where it goes wrong, or why the input
+/// is none; nothing where the script is too large.
 fn run_audit<K: Sink>(alloc: Global, input: &[u8], sink: &mut K) -> Status
     requires { length input.now ≤ AUDIT_LIMIT }
     ensures whole { IsWhole result
@@ -59,7 +59,7 @@ fn run_audit<K: Sink>(alloc: Global, input: &[u8], sink: &mut K) -> Status
     tell_said(sink, say(alloc, input, parts))
 }
 
-/// What is to be a script: where no line is `report`, the whole input.
+/// The part that is read as a script: where no line is `report`, the whole input.
 fn script_part<'b>(input: &'b [u8], parts: Option<(&'b [u8], &'b [u8])>) -> &'b [u8]
     requires { option_map (λ parts. (parts.0.now, parts.1.now)) parts ≡ spec.input_parts input.now }
     ensures { result.now ≡ spec.script_part input.now }
@@ -77,7 +77,7 @@ fn is_too_large(script: &[u8]) -> bool
     script.len() > limits::BYTE_LIMIT as usize || line_count(script) > limits::LINE_LIMIT
 }
 
-/// What is said of an input within the limits.
+/// The text for an input within the limits, with its status.
 fn say(alloc: Global, input: &[u8], parts: Option<(&[u8], &[u8])>) -> Result<Said, NoMemory>
     requires parts { option_map (λ parts. (parts.0.now, parts.1.now)) parts
         ≡ spec.input_parts input.now }
@@ -90,7 +90,7 @@ fn say(alloc: Global, input: &[u8], parts: Option<(&[u8], &[u8])>) -> Result<Sai
     }
 }
 
-/// What is said of an input of which no line is `report`.
+/// The text for an input without a line `report`.
 fn no_report(alloc: Global, input: &[u8]) -> Result<String, NoMemory>
     requires { length (lines_of input.now) ≤ LINE_LIMIT }
     ensures { IfOk result (λ text. string_bytes text ≡ no_report_text input.now) }
@@ -99,7 +99,7 @@ fn no_report(alloc: Global, input: &[u8]) -> Result<String, NoMemory>
     Ok(format!(in alloc; "bad {line} report\n")?)
 }
 
-/// What is said of a script and of what is to be its report.
+/// The text for a script and what follows the line `report`, with its status.
 fn judge(alloc: Global, script: &[u8], report: &[u8]) -> Result<Said, NoMemory>
     requires { length (lines_of script.now) ≤ LINE_LIMIT }
     ensures { IfOk result (λ said. Judges script.now report.now said.status
@@ -108,7 +108,7 @@ fn judge(alloc: Global, script: &[u8], report: &[u8]) -> Result<Said, NoMemory>
     match read(alloc, script) {
         Ok(script) => {
             let verdict = audit(alloc, &script, report);
-            // The program ends next, and its memory goes with it: no line is taken apart.
+            // The program ends next, and its memory with it: so no line is freed.
             forget(script);
             match verdict? {
                 Verdict::Legal => Ok(Said::of(Status::Done, String::from_str(alloc, "legal\n")?)),

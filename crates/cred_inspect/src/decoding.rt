@@ -13,7 +13,7 @@ use cred_report::{append_flag, append_number, append_set, append_word};
 use cred_said::{Said, Status, tell_said};
 use std::alloc::Global;
 
-/// Writes what the bytes of an attribute say, or why they are none.
+/// Writes what the bytes of an attribute say, or why they are no attribute.
 pub fn run_decode<K: Sink>(alloc: Global, bytes: &[u8], sink: &mut K) -> Status
     ensures attribute { LeavesAttribute bytes.now result (K.written sink.old) (K.written sink.new) }
     ensures writing { IsWriting result (K.handed_on sink.new)
@@ -22,7 +22,7 @@ pub fn run_decode<K: Sink>(alloc: Global, bytes: &[u8], sink: &mut K) -> Status
     tell_said(sink, say(alloc, bytes))
 }
 
-/// What is said of the bytes.
+/// The text for the bytes, with its status.
 fn say(alloc: Global, bytes: &[u8]) -> Result<Said, NoMemory>
     ensures { IfOk result (λ said. SaysBytes bytes.now said.status said.text.items) }
 {

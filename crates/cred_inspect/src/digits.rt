@@ -7,6 +7,10 @@ use cred_report::append_word;
 use std::alloc::Global;
 
 /// Appends the bytes, two digits each, in lower case.
+///
+/// # Errors
+///
+/// `NoMemory` if an allocation fails. Nothing is said of what the text holds then.
 pub(crate) fn append_hex(alloc: Global, text: &mut Vec<u8>, bytes: &[u8]) -> Result<(), NoMemory>
     ensures { OnOk result (text.new.items ≡ text.old.items ++ encode_lower bytes.now) }
 {

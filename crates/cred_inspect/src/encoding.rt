@@ -1,4 +1,4 @@
-//! The attribute that a text of file capabilities says, as its bytes.
+//! The bytes of the attribute that a text of file capabilities describes.
 ghost use Rattle.std.specs.Prelude.{◌≡◌, IfOk, string_bytes};
 ghost use Rattle.cred_inspect.specs.Encoding.{IsLineOf, LeavesText, SaysText};
 ghost use Rattle.cred_inspect.specs.Encoding.{text_refusal};
@@ -13,7 +13,7 @@ use cred_report::append_word;
 use cred_said::{Said, Status, tell_said};
 use std::alloc::Global;
 
-/// Writes the bytes of the attribute that a text says, or why it says none.
+/// Writes the bytes of the attribute that a text describes, or why it describes none.
 pub fn run_encode<K: Sink>(alloc: Global, text: &[u8], sink: &mut K) -> Status
     ensures line { LeavesText text.now result (K.written sink.old) (K.written sink.new) }
     ensures writing { IsWriting result (K.handed_on sink.new)
@@ -22,7 +22,7 @@ pub fn run_encode<K: Sink>(alloc: Global, text: &[u8], sink: &mut K) -> Status
     tell_said(sink, say(alloc, text))
 }
 
-/// What is said of the text.
+/// The line for the text, with its status.
 fn say(alloc: Global, text: &[u8]) -> Result<Said, NoMemory>
     ensures { IfOk result (λ said. SaysText text.now said.status said.text.items) }
 {
@@ -46,7 +46,7 @@ fn line_of(alloc: Global, caps: &FileCaps) -> Result<Vec<u8>, NoMemory>
     Ok(line)
 }
 
-/// The text of why a text says nothing of a file.
+/// The text of why a text describes no attribute.
 fn refusal_text(alloc: Global, refusal: TextRefusal) -> Result<String, NoMemory>
     ensures { IfOk result (λ line. string_bytes line ≡ text_refusal refusal) }
 {

@@ -1,7 +1,7 @@
 //! `audit`, `decode`, `encode` and `capdata` over their input and their output. Read it as part of
 //! `cred_commands`.
 //!
-//! They look at what they are given, and run nothing.
+//! `audit` compares a report with its script; the others convert one word of the command line.
 #![tactic(auto)]
 
 mod auditing;

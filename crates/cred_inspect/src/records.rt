@@ -13,7 +13,7 @@ use cred_report::{append_number, append_set, append_word};
 use cred_said::{Said, Status, tell_said};
 use std::alloc::Global;
 
-/// The version of the record that is written beside what another says.
+/// The version of the record that is written beside what a record says.
 const VERSION: u8 = 3;
 
 /// Writes what the bytes of a record say, and the bytes that say it by version 3; or why they are
@@ -26,7 +26,7 @@ pub fn run_capdata<K: Sink>(alloc: Global, bytes: &[u8], sink: &mut K) -> Status
     tell_said(sink, say(alloc, bytes))
 }
 
-/// What is said of the bytes.
+/// The text for the bytes, with its status.
 fn say(alloc: Global, bytes: &[u8]) -> Result<Said, NoMemory>
     ensures { IfOk result (λ said. SaysRecord bytes.now said.status said.text.items) }
 {

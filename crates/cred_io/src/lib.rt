@@ -1,7 +1,7 @@
-//! Where bytes come from and go to: sources and sinks with a count of faults, in memory and over
+//! Where bytes come from and go to: sources and sinks that count their faults, in memory and over
 //! std's streams.
 //!
-//! Here is also what reads to the end within a limit, and what writes a whole text.
+//! `read_all` reads a source to its end within a limit, `write_all` writes a whole text.
 #![tactic(auto)]
 
 mod failed;

@@ -1,4 +1,4 @@
-//! A sink in memory of which chosen calls fail, to try code at each fault of a sink.
+//! A sink in memory whose chosen calls fail, to try code at each fault of a sink.
 ghost use Rattle.std.specs.Prelude.{◌≡◌, ◌<◌, ◌↔◌, ◌++◌, [], true, false, length, take, min, Some};
 ghost use Rattle.std.specs.Prelude.{IfOk, OnOk, IsOk};
 ghost use Rattle.std.specs.Io.{WritesAtMost};
@@ -67,7 +67,7 @@ impl MemorySink {
         })
     }
 
-    /// The same sink, to which one call appends at most so many bytes, one at least.
+    /// The same sink, but one call appends at most `size` bytes, one at least.
     pub fn with_piece(self, size: usize) -> Self
         requires { 0 < size }
         ensures { result ≡ record self { piece = size } }

@@ -1,4 +1,4 @@
-//! A source in memory of which chosen calls fail, to try code at each fault of a source.
+//! A source in memory whose chosen calls fail, to try code at each fault of a source.
 ghost use Rattle.std.specs.Prelude.{◌≡◌, ◌<◌, ◌↔◌, ◌++◌, length, take, drop, min, Some, IfOk};
 ghost use Rattle.std.specs.Prelude.{OnErr, IsErr};
 ghost use Rattle.std.specs.Io.{ReadsAtMost};
@@ -75,7 +75,7 @@ impl MemorySource {
         })
     }
 
-    /// The same source, of which one call moves at most so many bytes, one at least.
+    /// The same source, but one call moves at most `size` bytes, one at least.
     pub fn with_piece(self, size: usize) -> Self
         requires { 0 < size }
         ensures { result ≡ record self { piece = size } }

@@ -1,3 +1,4 @@
+//! What bytes are written to, and writing a whole text.
 ghost use Rattle.std.specs.Prelude.{◌≡◌, ◌<◌, List, ℕ, Bool, true, false, length, IfOk, OnOk};
 ghost use Rattle.std.specs.Prelude.{OnErr};
 ghost use Rattle.std.specs.declared.option.Option.{Option};
@@ -23,9 +24,7 @@ pub trait Sink {
     /// How many calls have failed, at most the greatest `u64`. It never falls.
     ghost faults: { Self → ℕ };
 
-    /// Appends the first bytes of `piece`, and answers how many: one at least, unless it is empty.
-    ///
-    /// A refusal appends nothing. The count of faults rises for `Failed`, and for nothing else.
+    /// Appends the first bytes of `piece`, and returns how many: one at least, unless it is empty.
     ///
     /// # Errors
     ///
@@ -43,9 +42,7 @@ pub trait Sink {
     fn pieces_a_write(&self) -> usize
         ensures { 0 < result };
 
-    /// Hands on what a buffer below has kept back. What was written stays, also after a refusal.
-    ///
-    /// The count of faults rises for `Failed`, and for nothing else.
+    /// Hands on what a buffer below has kept back.
     ///
     /// # Errors
     ///
@@ -74,10 +71,7 @@ impl From<AllocError> for SinkRefusal {
     }
 }
 
-/// Appends the whole piece. A refusal, which is the sink's own, ends the writing; a prefix of the
-/// piece was then written.
-///
-/// Each turn of the loop writes a byte at least, or ends.
+/// Appends the whole piece. Each turn of the loop writes a byte at least, or ends.
 ///
 /// # Errors
 ///

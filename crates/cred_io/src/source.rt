@@ -1,3 +1,4 @@
+//! What bytes are read from, and reading to the end within a limit.
 ghost use Rattle.std.specs.Prelude.{◌≡◌, ◌≤◌, ◌+◌, List, ℕ, length, IfOk, IsErr};
 ghost use Rattle.std.specs.declared.option.Option.{Option};
 ghost use Rattle.std.specs.Io.{ReadsAtMost};
@@ -60,8 +61,8 @@ impl From<AllocError> for ReadRefusal {
     }
 }
 
-/// How many bytes one read asks for. A call of the kernel costs as much as it takes to copy some
-/// thousand bytes, and a function pays for its buffer each time that it is called.
+/// How many bytes one read asks for. A system call costs as much as a copy of some thousand bytes,
+/// and a function pays for its buffer each time that it is called.
 const CHUNK: usize = 65_536;
 
 /// Reads to the end, and returns all the bytes if they are no more than `limit`. One byte above the

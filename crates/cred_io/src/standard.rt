@@ -1,5 +1,5 @@
-//! Ends over std's readers and writers. Each counts the calls that it answers by a failure, so that
-//! a caller can distinguish a fault of the outside from code that gives up.
+//! A source over a reader of std, and a sink over a writer. Each counts its calls that fail, so
+//! that a caller can distinguish a fault of the outside from code that gives up.
 ghost use Rattle.std.specs.Prelude.{◌≡◌, ◌<◌, ◌≤◌, true, false, length, IfOk, OnOk, OnErr, IfErr};
 ghost use Rattle.std.specs.Prelude.{IsErr};
 ghost use Rattle.std.specs.Io.{ReadsAtMost, WritesAtMost};
@@ -33,7 +33,7 @@ impl<R: Read> Source for StdSource<R> {
 
     ghost faults = { std_source_faults };
 
-    /// One read of the reader. Its error is counted and answered as `Failed`.
+    /// One read of the reader. Its error is counted and returned as `Failed`.
     fn read(&mut self, buf: &mut [u8]) -> Result<usize, Failed>
         ensures bound { ReadsAtMost result buf.new }
         ensures bytes { ReadConsumes (R.remaining (std_reader self.old))
@@ -56,7 +56,7 @@ impl<R: Read> Source for StdSource<R> {
 /// How many pieces of a text are gathered for one write to a writer of std.
 const GATHERED: usize = 1_024;
 
-/// A writer of std, with a count of the calls that failed. It never answers `Memory`.
+/// A writer of std, with a count of the calls that failed. It never returns `Memory`.
 #[derive(Drop)]
 pub struct StdSink<W: Write> {
     writer: W,
@@ -98,7 +98,7 @@ impl<W: Write> Sink for StdSink<W> {
     ghost faults = { std_sink_faults };
 
     /// One write of the writer. An error, or a writer that takes nothing of a piece, is counted and
-    /// answered as `Failed`.
+    /// returned as `Failed`.
     fn write(&mut self, piece: &[u8]) -> Result<usize, SinkRefusal>
         ensures bound { WritesAtMost result piece.now }
         ensures some { IfOk result (λ n. 0 < length piece.now → 0 < n) }
@@ -133,7 +133,7 @@ impl<W: Write> Sink for StdSink<W> {
         GATHERED
     }
 
-    /// The writer's flush. Its error is counted and answered as `Failed`.
+    /// The writer's flush. Its error is counted and returned as `Failed`.
     fn flush(&mut self) -> Result<(), SinkRefusal>
         ensures bytes { Keeps (W.contents (std_writer self.old))
             (W.contents (std_writer self.new)) }

@@ -1,4 +1,4 @@
-//! Ends in memory that never fail.
+//! A source and a sink in memory that never fail.
 ghost use Rattle.std.specs.Prelude.{◌≡◌, ◌<◌, ◌++◌, [], true, false, length, take, drop, min, Some};
 ghost use Rattle.std.specs.Prelude.{IfOk, OnOk, IfErr, IsOk, IsErr};
 ghost use Rattle.std.specs.Io.{ReadsAtMost, WritesAtMost};
@@ -11,7 +11,7 @@ use cred_ids::NoMemory;
 use std::alloc::Global;
 use std::marker::Model;
 
-/// Bytes in memory, which reading never fails to give. Clauses see the bytes that are left.
+/// Bytes in memory, of which no read fails. Clauses see the bytes that are left.
 #[derive(Drop, Debug)]
 pub struct SureSource {
     bytes: Vec<u8>,
@@ -64,7 +64,8 @@ impl Source for SureSource {
     }
 }
 
-/// Bytes in memory, to which writing never fails. Clauses see a `SureState`.
+/// Bytes in memory, to which no write fails but where an allocation does. Clauses see a
+/// `SureState`.
 #[derive(Drop, Debug)]
 pub struct SureSink {
     bytes: Vec<u8>,

@@ -26,7 +26,7 @@ lent_more row rows n here is within lent =
     (λ k lt. get_or-set_other rows n k here (home_row fresh) (λ same. omega (arith, same, lt)) ∙ lent k lt)
     (get_or-set_same rows n here (home_row fresh) within ∙ is))
 
--- and those behind it are as they were
+-- and those after it are as they were
 pub home_after : (rows : List LaneRow) (n k : ℕ) (here : LaneRow) → n + 1 ≤ k
     → slice_index_or (with_row rows (n + 1) here) k (home_row fresh) ≡ slice_index_or rows k (home_row fresh)
 home_after rows n k here past = get_or-set_other rows (n + 1 - 1) k here (home_row fresh) (λ same. omega (arith, same, past))

@@ -6,7 +6,7 @@ use cred_hold::Cells;
 use std::marker::{Model, PhantomData};
 
 /// The cells of a kernel, which stand beside its lock and are the name's. Nobody reads or writes
-/// them but the steps that are made under the lock, and `decide`, which wants the lane's turn.
+/// them but the steps that are made under the lock, and `decide`, which needs the lane's turn.
 /// Contracts see their identity.
 pub struct KernelCells<K: Name> {
     cells: Cells,

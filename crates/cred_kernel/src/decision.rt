@@ -6,12 +6,12 @@ ghost use Rattle.cred_kernel.specs.Deciding.{WasDecided};
 use crate::cells::KernelCells;
 use crate::gate::{Gate, Place};
 use crate::name::Name;
-use crate::token::Turn;
+use crate::turns::Turn;
 use cred_ids::NoMemory;
 use cred_work::{Pause, Work, perform};
 use std::alloc::Global;
 
-/// The place in the decision of a lane's line at a gate.
+/// A gate, as the decision of a lane's line calls it: at the place in the decision.
 #[derive(Drop)]
 struct InDecision<'g, G: Gate> {
     gate: &'g G,
@@ -25,12 +25,12 @@ impl<G: Gate> Pause for InDecision<'_, G> {
     }
 }
 
-/// Decides the work that is out of the turn's lane, which stays this kernel's and of the same line.
-/// It is decided where it stands: to move what it has takes as long as most decisions. The gate is
-/// called before the decision, in it and after it.
+/// Decides the work of the turn's lane that is out. It stays this kernel's, and of the same line.
+/// It is decided in place: to move it takes as long as most decisions. The gate is called before
+/// the decision, in it and after it.
 ///
-/// It takes no lock: it sees the cells alone, and it needs the lane's turn, which whoever has the
-/// lock has given for it. It waits for nobody but the gate.
+/// It takes no lock: it sees the cells alone, and it needs the lane's turn, which whoever gets the
+/// lock gives for it. It waits for nobody but the gate.
 ///
 /// # Errors
 ///

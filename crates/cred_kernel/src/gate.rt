@@ -12,7 +12,7 @@ pub enum Place {
 }
 
 /// What a worker calls before, in and after each decision, so that a caller can hold a lane back
-/// there. The worker has not got the lock then, and no other lane waits for it.
+/// there. The worker doesn't have the lock then, and no other lane waits for it.
 pub trait Gate {
     /// Returns when the worker of the lane may go on with the line.
     fn pause(&self, lane: u32, line: u32, place: Place);

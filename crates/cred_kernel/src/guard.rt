@@ -8,16 +8,16 @@ ghost use Rattle.cred_kernel.specs.Advances.{Advanced, TurnHasEntered};
 use crate::cells::KernelCells;
 use crate::locked::Locked;
 use crate::name::Name;
-use crate::token::Turn;
+use crate::turns::Turn;
 use cred_book::{Step, Unfinished};
 use cred_ids::NoMemory;
 use cred_work::Work;
 use std::marker::Model;
 use std::sync::MutexGuard;
 
-/// The lock of a kernel, got by one thread, with the turn of the thread's lane: others wait until
-/// it is released. The turn comes back when the lock is released, and no sooner. So whoever has the
-/// lock has no turn in hand, and can't decide. Contracts see the turn.
+/// The lock of a kernel, which one thread has, with the turn of the thread's lane: others wait
+/// until it is released. The turn comes back when the lock is released, and no sooner. So whoever
+/// has the lock has no turn in hand, and can't decide. Contracts see the turn.
 pub struct KernelGuard<'k, K: Name> {
     pub(crate) cells: &'k KernelCells<K>,
     pub(crate) locked: MutexGuard<'k, Locked<K>>,
@@ -53,9 +53,9 @@ impl<K: Name> KernelGuard<'_, K> {
         self.turn.entered()
     }
 
-    /// Makes the next event of the lane, or gives it out as a work where it waits for a decision.
-    /// The answer is Ended exactly if no line of the lane is left, and then the turn is as it was.
-    /// No call changes the turn's lane.
+    /// Makes the next event of the lane, or hands it out as a work where it waits for a decision.
+    /// It returns `Step::Ended` exactly if no line of the lane is left, and then the turn is as it
+    /// was. No call changes the turn's lane.
     ///
     /// # Errors
     ///

@@ -9,7 +9,7 @@ use crate::locked::Locked;
 use crate::name::Name;
 use crate::parts::Parts;
 use crate::passes::{lend_all, take_all};
-use crate::token::{Turn, TurnList};
+use crate::turns::{Turn, TurnList};
 use cred_book::Journal;
 use cred_ids::NoMemory;
 use std::alloc::Global;
@@ -19,10 +19,10 @@ use std::thread::Parker;
 use std::time::Duration;
 
 /// How long a worker that finds the lock taken naps before it tries again, in microseconds. Works
-/// go out at every other line, and the lock is released for each. A lock that woke who waits for
-/// it would put a thread to sleep and wake another as often, which costs more than the line, and
-/// what lies under the lock would go from processor to processor. Of a nap whoever has the lock
-/// knows nothing, and mostly gets it again.
+/// go out at every other line, and the lock is released for each. A lock that wakes its waiters
+/// would put one thread to sleep and wake another as often, which costs more than the line, and
+/// what lies under the lock would move from processor to processor. Whoever has the lock knows
+/// nothing of a nap, and mostly gets the lock again.
 const NAP: u64 = 500;
 
 /// How often a worker tries before it waits to be woken, so that no lane is left out for long.
@@ -46,8 +46,8 @@ impl<K: Name> Drop for Kernel<K> {
 }
 
 impl<K: Name> Kernel<K> {
-    /// The kernel of these parts, and a turn for each lane from 1, in order. A lane's lines that
-    /// make no event count as ended from the start; nothing else was done for it.
+    /// The kernel of these parts, and a turn for each lane from 1, in order. Of each of these lanes
+    /// nothing has run; only its lines that make no event count as ended.
     ///
     /// # Errors
     ///

@@ -25,7 +25,7 @@ mod locked;
 pub mod name;
 pub mod parts;
 mod passes;
-pub mod token;
+pub mod turns;
 
 pub use cells::KernelCells;
 pub use decision::decide;
@@ -34,4 +34,4 @@ pub use guard::KernelGuard;
 pub use kernel::Kernel;
 pub use name::Name;
 pub use parts::Parts;
-pub use token::{Turn, TurnList};
+pub use turns::{Turn, TurnList};

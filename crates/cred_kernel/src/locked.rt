@@ -6,7 +6,7 @@ ghost use Rattle.cred_book.specs.declared.step.Step.TheVariants.{More};
 ghost use Rattle.cred_kernel.specs.Advances.{Advanced, TurnHasEntered, after_finish, after_step};
 
 use crate::name::Name;
-use crate::token::Turn;
+use crate::turns::Turn;
 use cred_book::{Book, Step, Unfinished};
 use cred_event::Entry;
 use cred_hold::Cells;
@@ -35,8 +35,8 @@ impl<K: Name> Model for Locked<K> {
 }
 
 impl<K: Name> Locked<K> {
-    /// Makes the next event of the turn's lane, or gives it out as a work where it waits for a
-    /// decision. There is no way out between taking the pass back and lending the row again: where
+    /// Makes the next event of the turn's lane, or hands it out as a work where it waits for a
+    /// decision. No return stands between taking the pass back and lending the row again: where
     /// memory ran out the same numbers are lent.
     ///
     /// # Errors

@@ -42,7 +42,7 @@ impl Model for Parts {
 }
 
 impl Parts {
-    /// The parts of a kernel of this script, whose setup runs now.
+    /// The parts of a kernel of this script, whose setup is run for it.
     ///
     /// # Errors
     ///

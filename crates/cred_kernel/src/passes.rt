@@ -7,7 +7,7 @@ ghost use Rattle.cred_kernel.specs.Locks.{AreLent, AreTheirs, IsReadyBook};
 ghost use Rattle.cred_kernel.specs.Turns.{AreAllTurns, AreFresh};
 
 use crate::name::Name;
-use crate::token::{Turn, TurnList};
+use crate::turns::{Turn, TurnList};
 use cred_book::Book;
 use cred_ids::NoMemory;
 use cred_turn::{LaneNumbers, Pass, Roll};
@@ -47,7 +47,7 @@ pub(crate) fn lend_all<K: Name>(
     Ok(TurnList { turns })
 }
 
-/// A turn of which nothing was entered.
+/// A turn of a lane before its first event.
 fn new_turn<K: Name>(lane: u32, numbers: LaneNumbers, lent: Pass) -> Turn<K>
     requires lane { (0 < lane) × (lane ≤ lanes K.script.lines) }
     requires pass { lent ≡ pass K.roll lane numbers }

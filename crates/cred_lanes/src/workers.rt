@@ -15,7 +15,7 @@ use std::sync::Wait;
 use std::thread;
 use std::thread::Threads;
 
-/// Runs one worker for each turn, beside each other where threads can be made, and else one after
+/// Runs one worker for each turn, all in parallel where threads can be made, and else one after
 /// another. The turns come back in the same order, and each of them has ended. It may wait.
 ///
 /// The turns are all turns of the kernel, in the order of their lanes from 1, and none of them has
@@ -43,20 +43,20 @@ pub fn drive<K: Name + Send + Sync, G: Gate + Sync, R: Threads + Wait + Sync>(
         &|turn: Turn<K>| -> Result<Turn<K>, NoMemory>
             requires { turn.numbers.out ≡ None }
             ensures { IfOk result (Finished K.script turn) }
-        { work(rt, alloc, kernel, gate, turn) },
+        { run_lane(rt, alloc, kernel, gate, turn) },
     )?;
     all_ended(alloc, done)
 }
 
 /// A worker releases the lock once it has made this part of the events that its lane has had, if
 /// none of them had to be decided. A thread that is put to sleep and woken costs as much as a
-/// hundred events, so a long lane isn't to release the lock at each; in a short one the lanes
+/// hundred events, so a long lane should not release the lock at each; in a short one the lanes
 /// still take turns often.
 const PART: u64 = 16;
 
 /// Makes the events of the turn's lane, one after another, until the lane has ended. What waits for
 /// a decision is decided without the lock.
-fn work<K: Name, G: Gate, R: Wait>(
+fn run_lane<K: Name, G: Gate, R: Wait>(
     rt: &R,
     alloc: Global,
     kernel: &Kernel<K>,
@@ -136,8 +136,8 @@ fn enter<K: Name>(guard: &mut KernelGuard<'_, K>, work: Work) -> Result<(), NoMe
     }
 }
 
-/// Makes some events of the lane under the lock, up to the next that waits for a decision. Ended
-/// comes only where the lane has ended. No call changes the turn's lane.
+/// Makes some events of the lane under the lock, up to the next that waits for a decision.
+/// `Step::Ended` is returned only where the lane has ended. No call changes the turn's lane.
 ///
 /// # Errors
 ///

@@ -23,8 +23,8 @@ use std::marker::Model;
 /// credential is kept as long as something refers to it, and no longer.
 ///
 /// An id call takes a slot, and so does each thread's step in a broadcast; neither gives one back
-/// unless there is a sweep. So the next one needs no look through all that refers, and only after
-/// another event, or after a sweep, there is one.
+/// unless there is a sweep. So the next one needs no search through all that refers; only after
+/// another event, or after a sweep, is there one.
 #[derive(Drop)]
 pub struct CachedState {
     state: State,
@@ -57,8 +57,8 @@ impl CachedState {
         })
     }
 
-    /// Makes one event of a line of the script, and answers it. What nothing refers to any more
-    /// after it is forgotten.
+    /// Makes one event of a line of the script, and returns its answer. What nothing refers to any
+    /// more after it is forgotten.
     ///
     /// # Errors
     ///

@@ -1,12 +1,11 @@
 //! The second body of a step, on which `audit` runs: plain values in lists, and no count of
 //! references.
 //!
-//! Its tasks, open files, holds and prepared labels have the numbers of credentials, and who refers
-//! to a number is found by looking through all that refers.
+//! Its tasks, open files, holds and prepared labels have the numbers of credentials, and what
+//! refers to a number is found by a search through all of them.
 #![tactic(auto)]
 
 mod cached;
-mod flags;
 mod machine;
 mod on_broadcasts;
 mod on_files;
@@ -16,6 +15,7 @@ mod on_overrides;
 mod on_ptrace;
 mod on_raw;
 mod on_tasks;
+mod processes;
 mod slots;
 mod state;
 

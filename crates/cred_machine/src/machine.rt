@@ -47,8 +47,8 @@ impl<'a> Machine<'a> {
         })
     }
 
-    /// Makes one event of a line, and answers it. The event names only declared files and
-    /// namespaces, and gives a file only what is a mode.
+    /// Makes one event of a line, and returns its answer. The event names only declared files and
+    /// namespaces, and gives a file only a valid mode.
     ///
     /// # Errors
     ///

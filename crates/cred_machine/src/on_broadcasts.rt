@@ -43,6 +43,10 @@ impl State {
     /// A task makes an id call. The other threads of its process then wait for their step; where it
     /// has none, the broadcast is completed at once. `TableFull` leaves the state swept, and the
     /// other refusals leave it. Which slots are live may be known before it and after it.
+    ///
+    /// # Errors
+    ///
+    /// `NoMemory` if an allocation fails: the state is as it was.
     pub(crate) fn begin(
         &mut self,
         live: &mut Option<Marks>,
@@ -142,7 +146,11 @@ impl State {
     /// The least thread that waits in the broadcast makes the call of it on its own current
     /// credential. `NoBroadcast` leaves the state. Where the call is refused, or where no slot is
     /// free even after a sweep, all threads of the process end and the broadcast is dropped. `room`
-    /// is where the credential goes that it makes.
+    /// is the slot for the credential that it makes.
+    ///
+    /// # Errors
+    ///
+    /// `NoMemory` if an allocation fails: the state is as it was.
     pub(crate) fn act(&mut self, line: u32, room: Room) -> Result<Answer, NoMemory>
         requires sound { IsSound self.old }
         requires slot { room.slot ≡ free self.old }
@@ -169,8 +177,8 @@ impl State {
         let own = owner.process;
         let cred = match call_on_copy(self.alloc, current.cred, &broadcast.call) {
             Ok(cred) => cred,
-            // Whether a call is valid is the call's alone, and its caller has made it: what the
-            // thread lacks is the right.
+            // Whether a call is valid depends on its arguments alone, and its caller has made it:
+            // so what the thread lacks is the right.
             Err(Refusal::Perm | Refusal::Invalid) => {
                 return self.end_process(process, task, AbortCause::Perm);
             }
@@ -194,6 +202,10 @@ impl State {
 
     /// A task's current credential is replaced by this one, which is sealed in the slot, after a
     /// sweep if that needs one. The old one's number is given up.
+    ///
+    /// # Errors
+    ///
+    /// `NoMemory` if an allocation fails: the state is as it was.
     pub(crate) fn replace(
         &mut self,
         task: u32,

@@ -17,6 +17,10 @@ use cred_record::Want;
 impl State {
     /// The file is opened under the descriptor as it stands, by the credential that the hold has
     /// (open(2)). The refusals leave the state.
+    ///
+    /// # Errors
+    ///
+    /// `NoMemory` if an allocation fails: the state is as it was.
     pub(crate) fn open_file(
         &mut self,
         hold: u32,
@@ -56,6 +60,10 @@ impl State {
 
     /// The descriptor is closed, and its opener's credential given up (close(2)). `Ebadf` leaves
     /// the state.
+    ///
+    /// # Errors
+    ///
+    /// `NoMemory` if an allocation fails: the state is as it was.
     pub(crate) fn close_file(&mut self, fd: u32) -> Result<Answer, NoMemory>
         ensures ok { IfOk result (λ answer.
             Gives self.old (by_close self.old fd) answer self.new) }
@@ -72,6 +80,10 @@ impl State {
 
     /// The label takes hold of the credential that the open file was opened by. The refusals leave
     /// the state.
+    ///
+    /// # Errors
+    ///
+    /// `NoMemory` if an allocation fails: the state is as it was.
     pub(crate) fn take_file(&mut self, label: u32, fd: u32) -> Result<Answer, NoMemory>
         ensures ok { IfOk result (λ answer.
             Gives self.old (by_take_file self.old label fd) answer self.new) }

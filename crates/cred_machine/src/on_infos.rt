@@ -1,4 +1,4 @@
-//! The events that change a file, and the question how one stands.
+//! The events that change a file (chown(2), chmod(2), setxattr(2)), and stat(2).
 ghost use Rattle.std.specs.Prelude.{◌≡◌, true, IfOk, OnErr};
 ghost use Rattle.cred_model.specs.FileChanges.{changed_by, event_changes};
 ghost use Rattle.cred_model.specs.Like.{Gives};
@@ -35,6 +35,10 @@ fn changed(event: &Event, cred: &Cred, file: &FileInfo) -> Result<FileInfo, Refu
 impl State {
     /// The file is from then on what the event's call makes of it, by the credential that the hold
     /// has (chown(2), chmod(2), setxattr(2)). The refusals leave the state.
+    ///
+    /// # Errors
+    ///
+    /// `NoMemory` if an allocation fails: the state is as it was.
     pub(crate) fn change_file(
         &mut self,
         hold: u32,

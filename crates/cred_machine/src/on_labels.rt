@@ -25,6 +25,12 @@ use cred_record::copy;
 use cred_script::Script;
 
 impl State {
+    /// The label takes hold of the credential that the task acts with, or of the one that it is
+    /// acted on by. The refusals leave the state.
+    ///
+    /// # Errors
+    ///
+    /// `NoMemory` if an allocation fails: the state is as it was.
     pub(crate) fn take(&mut self, label: u32, task: u32, side: Side) -> Result<Answer, NoMemory>
         ensures ok { IfOk result (λ answer.
             Gives self.old (by_take self.old label task side) answer self.new) }
@@ -37,6 +43,10 @@ impl State {
     }
 
     /// The label takes hold of the credential of this number, which stands in this slot.
+    ///
+    /// # Errors
+    ///
+    /// `NoMemory` if an allocation fails: the state is as it was.
     pub(crate) fn take_hold(
         &mut self,
         label: u32,
@@ -60,6 +70,12 @@ impl State {
         Ok(Answer::Sealed { cred: number, slot })
     }
 
+    /// The label drops its hold: the reference to its credential is given up. `NoHold` leaves the
+    /// state.
+    ///
+    /// # Errors
+    ///
+    /// `NoMemory` if an allocation fails: the state is as it was.
     pub(crate) fn release(&mut self, label: u32) -> Result<Answer, NoMemory>
         ensures ok { IfOk result (λ answer.
             Gives self.old (by_release self.old label) answer self.new) }
@@ -76,6 +92,10 @@ impl State {
 
     /// A question about the credential that the label holds, and about the file that it names as
     /// that stands.
+    ///
+    /// # Errors
+    ///
+    /// `NoMemory` if an allocation of the answer fails.
     pub(crate) fn ask(&self, label: u32, query: Query) -> Result<Answer, NoMemory>
         ensures { IfOk result (λ answer.
             Gives self.now (by_ask self.now label query) answer self.now) }
@@ -113,6 +133,10 @@ impl State {
     /// The label prepares a new credential for the task, based on the one that the hold has, and
     /// keeps the slot that the new one will stand in. `NoTask`, `Busy`, `NoHold`, `Exists` and
     /// `TooMany` leave the state; `TableFull` leaves it swept.
+    ///
+    /// # Errors
+    ///
+    /// `NoMemory` if an allocation fails: the state is as it was.
     pub(crate) fn prepare(&mut self, label: u32, task: u32, hold: u32) -> Result<Answer, NoMemory>
         ensures ok { IfOk result (λ answer.
             Gives self.old (by_prepare self.old label task hold) answer self.new) }
@@ -155,6 +179,10 @@ impl State {
     /// What the label prepares is its base, changed so, by an execve of a file as that stands.
     /// `NoPrepared` and the refusals of the change leave the state, and with it what an earlier
     /// change made of the base.
+    ///
+    /// # Errors
+    ///
+    /// `NoMemory` if an allocation fails: the state is as it was.
     pub(crate) fn alter(
         &mut self,
         script: &Script,
@@ -196,6 +224,10 @@ impl State {
     /// execve, all other threads of the task's process end (execve(2)), and the process's broadcast
     /// is dropped. `Stale` comes where the task's current credential isn't the base any more: then
     /// the label is given up. The other refusals leave the state.
+    ///
+    /// # Errors
+    ///
+    /// `NoMemory` if an allocation fails: the state is as it was.
     pub(crate) fn commit(&mut self, label: u32) -> Result<Answer, NoMemory>
         ensures ok { IfOk result (λ answer.
             Gives self.old (by_commit self.old label) answer self.new) }
@@ -270,6 +302,10 @@ impl State {
 
     /// The label gives up what it prepared, with its slot and the reference to its base.
     /// `NoPrepared` leaves the state.
+    ///
+    /// # Errors
+    ///
+    /// `NoMemory` if an allocation fails: the state is as it was.
     pub(crate) fn abort(&mut self, label: u32) -> Result<Answer, NoMemory>
         ensures ok { IfOk result (λ answer.
             Gives self.old (by_abort self.old label) answer self.new) }

@@ -18,6 +18,10 @@ impl State {
     /// Documentation/security/credentials.rst): with the one that the label holds, or with what the
     /// task prepared under the label for access(2). Its current credential stays. `NoTask`,
     /// `NoHold` and `TooDeep` leave the state.
+    ///
+    /// # Errors
+    ///
+    /// `NoMemory` if an allocation fails: the state is as it was.
     pub(crate) fn override_with(&mut self, task: u32, label: u32) -> Result<Answer, NoMemory>
         requires { IsSound self.old }
         ensures ok { IfOk result (λ answer.
@@ -75,6 +79,10 @@ impl State {
     /// A task acts again with the credential that it had before its newest override (Linux's
     /// `revert_creds`), and that override's credential is given up. `NoTask` and `NotOverridden`
     /// leave the state.
+    ///
+    /// # Errors
+    ///
+    /// `NoMemory` if an allocation fails: the state is as it was.
     pub(crate) fn revert(&mut self, task: u32) -> Result<Answer, NoMemory>
         requires { IsSound self.old }
         ensures ok { IfOk result (λ answer.

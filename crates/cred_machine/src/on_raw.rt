@@ -18,6 +18,10 @@ use cred_record::{Cred, IdCall, Refusal};
 impl State {
     /// A task makes an id call for itself alone: no other thread of its process waits for a step.
     /// `TableFull` leaves the state swept, and the other refusals leave it.
+    ///
+    /// # Errors
+    ///
+    /// `NoMemory` if an allocation fails: the state is as it was.
     pub(crate) fn raw(&mut self, task: u32, call: &IdCall) -> Result<Answer, NoMemory>
         ensures ok { IfOk result (λ answer.
             Gives self.old (by_raw self.old task call.now) answer self.new) }

@@ -4,7 +4,7 @@ ghost use Rattle.cred_model.specs.Like.{Gives};
 ghost use Rattle.cred_model.specs.Step.{by_exit, by_fork, by_init, by_spawn};
 ghost use Rattle.cred_sound.specs.Sound.{IsSound};
 
-use crate::flags;
+use crate::processes;
 use crate::slots::{Room, defer_left, sweep_if};
 use crate::state::{State, overridden};
 use cred_event::{Answer, Counted, Named};
@@ -14,8 +14,12 @@ use cred_plain::{Ending, Numbered, Task};
 use cred_record::first;
 
 impl State {
-    /// A first task is created, with its first credential, in a namespace where root has the user
-    /// id `root`. `Busy`, `Exists` and `TooMany` leave the state; `TableFull` leaves it swept.
+    /// Creates a first task, with its first credential, in a namespace where root has the user id
+    /// `root`. `Busy`, `Exists` and `TooMany` leave the state; `TableFull` leaves it swept.
+    ///
+    /// # Errors
+    ///
+    /// `NoMemory` if an allocation fails: the state is as it was.
     pub(crate) fn init(
         &mut self,
         number: u32,
@@ -50,7 +54,7 @@ impl State {
         let cred = first(self.alloc, user, group, ns, root)?;
         let next = self.creds.next_number();
         let task = Task::first(self.alloc, number, process, next);
-        flags::enter(&mut self.tasks, &mut self.dump, task)?;
+        processes::enter(&mut self.tasks, &mut self.dump, task)?;
         sweep_if(&mut self.deferred, swept);
         self.creds.seal(cred, slot);
         Ok(Answer::Sealed { cred: next, slot })
@@ -58,6 +62,10 @@ impl State {
 
     /// A task creates a thread of its process (clone(2) with CLONE_THREAD), which shares its
     /// current credential, and waits where its creator waits. The refusals leave the state.
+    ///
+    /// # Errors
+    ///
+    /// `NoMemory` if an allocation fails: the state is as it was.
     pub(crate) fn spawn(&mut self, task: u32, child: u32) -> Result<Answer, NoMemory>
         requires { IsSound self.old }
         ensures ok { IfOk result (λ answer.
@@ -96,6 +104,10 @@ impl State {
 
     /// A task creates a process (fork(2)), whose one thread shares its current credential. It is
     /// dumpable where the task's is. The refusals leave the state.
+    ///
+    /// # Errors
+    ///
+    /// `NoMemory` if an allocation fails: the state is as it was.
     pub(crate) fn fork(&mut self, task: u32, child: u32, process: u32) -> Result<Answer, NoMemory>
         requires sound { IsSound self.old }
         ensures ok { IfOk result (λ answer.
@@ -131,13 +143,17 @@ impl State {
         }
         let dumpable = self.dump.is_dumpable(owner.process);
         let thread = Task::first(self.alloc, child, process, number);
-        flags::begin_process(&mut self.tasks, &mut self.dump, thread, dumpable)?;
+        processes::begin_process(&mut self.tasks, &mut self.dump, thread, dumpable)?;
         Ok(Answer::Sealed { cred: number, slot })
     }
 
     /// A task ends, and what it referred to is given up. It waits in no broadcast any more; its
     /// holds and prepared labels stay. `NoTask`, `Busy`, and `Overridden` while it acts with
     /// another credential than its current one, leave the state.
+    ///
+    /// # Errors
+    ///
+    /// `NoMemory` if an allocation fails: the state is as it was.
     pub(crate) fn exit(&mut self, task: u32) -> Result<Answer, NoMemory>
         ensures ok { IfOk result (λ answer.
             Gives self.old (by_exit self.old task) answer self.new) }

@@ -41,7 +41,11 @@ impl Model for Marks {
 }
 
 impl Marks {
-    /// No slot is marked.
+    /// Marks on no slot.
+    ///
+    /// # Errors
+    ///
+    /// `NoMemory` if the allocation of the marks fails.
     pub fn new(alloc: Global) -> Result<Marks, NoMemory>
         ensures { IfOk result (λ marks. (slot : ℕ) → is_marked marks slot ≡ false) }
     {
@@ -51,7 +55,7 @@ impl Marks {
         })
     }
 
-    /// Marks a slot. There is none past the last.
+    /// Marks a slot, if there is one of this number.
     pub fn put(&mut self, slot: u32)
         ensures { (other : ℕ) → other < SLOTS
             → is_marked self.new other ≡ (is_marked self.old other || (slot == other)) }
@@ -103,7 +107,7 @@ impl Marks {
         }
     }
 
-    /// The least slot that isn't marked. What is below it isn't looked at the next time.
+    /// The least slot that isn't marked. The next search begins there.
     pub fn first_clear(&mut self) -> Option<u32>
         ensures slot { result ≡ find (λ slot. not (is_marked self.old slot)) slots }
         ensures marks { self.new ≡ self.old }
@@ -141,6 +145,10 @@ pub struct Room {
 impl State {
     /// The numbers that are referred to, a list for each kind of thing that refers, one after
     /// another. What was given up isn't among them.
+    ///
+    /// # Errors
+    ///
+    /// `NoMemory` if an allocation of the list fails.
     pub(crate) fn in_use(&self) -> Result<Vec<u64>, NoMemory>
         ensures { IfOk result (λ numbers. numbers.items ≡ in_use self.now) }
     {
@@ -153,7 +161,7 @@ impl State {
         Ok(numbers)
     }
 
-    /// Which slots are live, by a look through all that refers.
+    /// Which slots are live, by a search through all that refers.
     ///
     /// # Errors
     ///
@@ -179,8 +187,8 @@ impl State {
         marks_of(self.alloc, &self.creds, &in_use, &[], &self.prepared)
     }
 
-    /// The slot that a new credential takes. Where all are live, those are free that only what was
-    /// given up stands in.
+    /// The slot that a new credential takes. Where all are live, a sweep frees those that only what
+    /// was given up stands in.
     ///
     /// # Errors
     ///
@@ -222,7 +230,7 @@ impl State {
         self.deferred.clear();
     }
 
-    /// What is answered where no slot is free even after a sweep, which stands.
+    /// Sweeps, and returns the answer for the case that no slot is free even then.
     pub(crate) fn table_full(&mut self) -> Answer
         ensures answer { result ≡ TableFull }
         ensures state { self.new ≡ model.swept self.old }
@@ -232,7 +240,12 @@ impl State {
     }
 }
 
-/// Which slots are live: those of which that is known, or else by a look through all that refers.
+/// Which slots are live: the marks, where they are known, or else those found by a search through
+/// all that refers.
+///
+/// # Errors
+///
+/// `NoMemory` if the allocation of a list fails.
 pub fn live_slots(state: &State, known: Option<Marks>) -> Result<Marks, NoMemory>
     requires { IfSome known (λ marks. AreLive marks state.now) }
     ensures { IfOk result (λ marks. AreLive marks state.now) }
@@ -323,8 +336,12 @@ pub fn sweep_if(late: &mut Vec<u64>, swept: bool)
     }
 }
 
-/// References to these numbers are given up, after a sweep if there is one. If an allocation fails,
-/// nothing changes; where there is room, none is made.
+/// Gives up references to these numbers, after a sweep if there is one. Where there is room,
+/// nothing is allocated.
+///
+/// # Errors
+///
+/// `NoMemory` if an allocation fails: nothing changes.
 pub fn defer(late: &mut Vec<u64>, swept: bool, numbers: &[u64]) -> Result<(), NoMemory>
     ensures ok { OnOk result
         (late.new.items ≡ (if swept then [] else late.old.items) ++ numbers.now) }
@@ -337,8 +354,11 @@ pub fn defer(late: &mut Vec<u64>, swept: bool, numbers: &[u64]) -> Result<(), No
     Ok(())
 }
 
-/// References to what those tasks refer to which end are given up, after a sweep if there is one.
-/// If an allocation fails, nothing changes.
+/// Gives up what the ending tasks refer to, after a sweep if there is one.
+///
+/// # Errors
+///
+/// `NoMemory` if an allocation fails: nothing changes.
 pub fn defer_left(
     late: &mut Vec<u64>,
     swept: bool,
@@ -353,8 +373,12 @@ pub fn defer_left(
     defer(late, swept, &numbers)
 }
 
-/// There is room for one credential more, and references to these numbers are given up, after a
-/// sweep if there is one. If an allocation fails, neither list changes.
+/// Makes room for one credential more, and gives up references to these numbers, after a sweep if
+/// there is one.
+///
+/// # Errors
+///
+/// `NoMemory` if an allocation fails: neither list changes.
 pub fn make_room(
     creds: &mut Creds,
     late: &mut Vec<u64>,

@@ -131,7 +131,7 @@ impl State {
         self.creds.forget(&references);
     }
 
-    /// The same where a sweep may have left one to which nothing refers.
+    /// The same, where a sweep may have left credentials that nothing refers to.
     pub(crate) fn forget_if(&mut self, swept: bool)
         requires { swept ≡ false → KeepsReferred self.old }
         ensures like { IsLike self.new self.old }

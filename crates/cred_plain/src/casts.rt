@@ -61,19 +61,19 @@ impl Cast {
         self.waiting.first().copied()
     }
 
-    /// How many wait beside one of them, where somebody waits.
+    /// How many wait beside the least one, where somebody waits.
     pub fn others(&self) -> u32
         requires some { 0 < length self.now.waiting }
         requires rising { AllPairs (λ m n. m < n) self.now.waiting }
         ensures { result + 1 ≡ length self.now.waiting }
     {
-        // No two of them are one, so that the greatest bounds how many they are.
+        // They are all different, so the greatest bounds how many there are.
         let greatest = *self.waiting.last().unwrap();
         prove!(self.waiting.len() - 1 <= greatest as usize);
         (self.waiting.len() - 1) as u32
     }
 
-    /// A task waits too. If an allocation fails, nothing changes.
+    /// Adds a task that waits. If an allocation fails, nothing changes.
     fn join(&mut self, task: u32) -> Result<(), NoMemory>
         ensures ok { OnOk result (self.new
             ≡ record self.old { waiting = in_order (self.old.waiting ++ task ∷ []) }) }
@@ -84,7 +84,7 @@ impl Cast {
         Ok(())
     }
 
-    /// The least of those that wait has made the call, and waits no more.
+    /// Removes the least of those that wait, which has made the call.
     fn step(&mut self)
         requires { 0 < length self.old.waiting }
         ensures { self.new ≡ record self.old { waiting = drop 1 self.old.waiting } }
@@ -92,7 +92,7 @@ impl Cast {
         self.waiting.remove(0);
     }
 
-    /// A task waits no more.
+    /// Removes a task from those that wait.
     fn leave(&mut self, task: u32)
         ensures { self.new ≡ without_waiter task self.old }
     {
@@ -153,7 +153,7 @@ fn number_by(broadcasts: &[Cast], task: u32) -> Option<u32>
     Some(found?.number)
 }
 
-/// A broadcast more, if anybody waits in it.
+/// Adds the broadcast, if anybody waits in it.
 ///
 /// # Errors
 ///
@@ -169,8 +169,8 @@ pub fn open_broadcast(broadcasts: &mut Vec<Cast>, broadcast: Cast) -> Result<(),
     Ok(())
 }
 
-/// A task has created a thread, which waits where its creator waits. No task waits in two
-/// broadcasts.
+/// Adds a new thread to the broadcast that its creator waits in, if there is one. No task waits in
+/// two broadcasts.
 ///
 /// # Errors
 ///
@@ -189,8 +189,8 @@ pub fn join(broadcasts: &mut Vec<Cast>, parent: u32, child: u32) -> Result<(), N
     broadcasts[place].join(child)
 }
 
-/// The least task that waits in the broadcast at a place has made its step there: it waits no more,
-/// and a broadcast that nobody waits in any more is closed.
+/// Removes the least task that waits in the broadcast at a place, which has made its step there,
+/// and the broadcast if nobody waits in it any more.
 pub fn act(broadcasts: &mut Vec<Cast>, place: usize, task: u32)
     requires broadcasts { AreWaitedFor broadcasts.old.items }
     requires least { IsSomeAnd (slice_get broadcasts.old.items place)
@@ -204,7 +204,7 @@ pub fn act(broadcasts: &mut Vec<Cast>, place: usize, task: u32)
     }
 }
 
-/// A task waits no more, and the broadcasts that nobody waits in any more are closed.
+/// Removes a task from those that wait, and the broadcasts that nobody waits in any more.
 pub fn leave(broadcasts: &mut Vec<Cast>, task: u32)
     ensures { broadcasts.new.items ≡ waits_no_more task broadcasts.old.items }
 {
@@ -214,7 +214,7 @@ pub fn leave(broadcasts: &mut Vec<Cast>, task: u32)
     broadcasts.retain(|broadcast| !broadcast.waiting.is_empty());
 }
 
-/// The broadcast of a process is dropped.
+/// Drops the broadcast of a process.
 pub fn drop_broadcast(broadcasts: &mut Vec<Cast>, process: u32)
     ensures { broadcasts.new.items ≡ dropped process broadcasts.old.items }
 {

@@ -38,8 +38,8 @@ pub struct Numbered<'a> {
 
 /// The credentials that something refers to, in the order of their numbers, and the slot of each
 /// number that was ever sealed. Contracts see what is stored, and the list of the sealed
-/// credentials with their slots: there, under a number whose credential was forgotten, stands one
-/// that is the same for all of those.
+/// credentials with their slots: there each credential that was forgotten is replaced by one, the
+/// same for all.
 #[derive(Drop)]
 pub struct Creds {
     stored: Vec<Stored>,
@@ -64,7 +64,7 @@ impl Model for Creds {
 }
 
 impl Creds {
-    /// Nothing is sealed.
+    /// The credentials before the first one is sealed.
     ///
     /// # Errors
     ///

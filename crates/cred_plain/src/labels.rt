@@ -92,7 +92,7 @@ impl Prepared {
         }
     }
 
-    /// Its base has become this.
+    /// Notes what its base has become.
     fn change(&mut self, to: Changed)
         ensures { self.new ≡ record self.old { changed = Some to } }
     {
@@ -139,7 +139,7 @@ pub fn prepared_place(prepared: &[Prepared], label: u32) -> Option<usize>
         .position(|preparation| preparation.label == label)
 }
 
-/// The base of a label was changed to this.
+/// Notes what the base of a label has become.
 pub fn change_at(prepared: &mut Vec<Prepared>, label: u32, to: Changed)
     ensures { AllPairs (λ a b. a.label ≢ b.label) prepared.old.items
         → prepared.new.items ≡ with_change prepared.old.items label to }

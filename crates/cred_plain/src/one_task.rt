@@ -38,7 +38,7 @@ impl Model for Task {
     ghost invariant = { λ t. length t.overrides.items ≤ DEPTH };
 }
 
-/// Which tasks end with an event.
+/// Which tasks an event ends.
 #[derive(Clone, Copy)]
 pub enum Ending {
     Nobody,
@@ -51,7 +51,7 @@ pub enum Ending {
 }
 
 impl Ending {
-    /// Whether a task ends.
+    /// Whether this task ends.
     pub fn takes(self, task: &Task) -> bool
         ensures { result ≡ ends_by self task.now }
     {
@@ -113,6 +113,10 @@ impl Task {
     }
 
     /// Appends the numbers that it refers to.
+    ///
+    /// # Errors
+    ///
+    /// `NoMemory` if the list cannot grow.
     pub(crate) fn refer(&self, numbers: &mut Vec<u64>) -> Result<(), NoMemory>
         ensures { OnOk result (numbers.new.items ≡ numbers.old.items ++ numbers_of self.now) }
     {
@@ -121,7 +125,7 @@ impl Task {
         Ok(())
     }
 
-    /// It gets another current credential, if it is the task of this number.
+    /// Gives it another current credential, if it is the task of this number.
     pub(crate) fn update(&mut self, task: u32, number: u64)
         ensures { self.new ≡ updated task number self.old }
     {
@@ -130,7 +134,11 @@ impl Task {
         }
     }
 
-    /// It acts with another credential from now on. If an allocation fails, nothing changes.
+    /// Lets it act with another credential from now on.
+    ///
+    /// # Errors
+    ///
+    /// `NoMemory` if an allocation fails: nothing changes.
     pub(crate) fn push(&mut self, number: u64) -> Result<(), NoMemory>
         requires { length self.old.overrides < DEPTH }
         ensures ok { OnOk result
@@ -141,7 +149,7 @@ impl Task {
         Ok(())
     }
 
-    /// It acts again with the credential that it had before its newest override.
+    /// Lets it act again with the credential that it had before its newest override.
     pub(crate) fn pop(&mut self)
         ensures { self.new ≡ record self.old { overrides = drop 1 self.old.overrides } }
     {

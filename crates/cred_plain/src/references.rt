@@ -49,7 +49,7 @@ impl References<'_> {
 
     /// Whether a task does. This is asked of each stored credential after every sweep. Nearly all
     /// that nothing refers to are older than the oldest that a task refers to: for those the tasks
-    /// are not gone through.
+    /// are not searched.
     fn used_from(&self, number: u64, oldest: Oldest) -> bool
         ensures { UsesNoneBelow self.now oldest.number → result ≡ is_used self.now number }
     {
@@ -71,7 +71,7 @@ impl References<'_> {
         task.current == number
     }
 
-    /// Whether a task does, by going through them once.
+    /// Whether a task does, by a search through all of them.
     fn used(&self, number: u64) -> bool
         ensures { result ≡ is_used self.now number }
     {

@@ -18,8 +18,8 @@ use std::marker::Model;
 #[derive(Drop)]
 pub struct Tasks {
     list: Vec<Task>,
-    /// Where the task stood that was given a credential last. Another may stand there by now, or
-    /// none: a task is taken from behind it only where its number is the one that is looked for.
+    /// The place of the task that got a credential last. Another task may have it by now, or none:
+    /// the task after it is taken only where its number is the one that is looked for.
     recent: usize,
     alloc: Global,
 }
@@ -37,7 +37,7 @@ impl Model for Tasks {
 }
 
 impl Tasks {
-    /// No task.
+    /// A list of no tasks.
     pub fn new(alloc: Global) -> Tasks
         ensures { result ≡ [] }
     {
@@ -97,7 +97,7 @@ impl Tasks {
         &self.list[place]
     }
 
-    /// The task at a place gets another current credential, where no two tasks have one number.
+    /// Gives the task at a place another current credential, where no two tasks have one number.
     pub fn set_current_at(&mut self, place: usize, number: u64)
         requires { place < length self.old }
         ensures { AllPairs (λ a b. a.number ≢ b.number) self.old
@@ -145,7 +145,7 @@ impl Tasks {
             .find(|other| other.process == process && other.number != task)
     }
 
-    /// A task more, where fewer than 64 are alive.
+    /// Adds a task, where fewer than 64 are alive.
     ///
     /// # Errors
     ///
@@ -159,14 +159,14 @@ impl Tasks {
         Ok(())
     }
 
-    /// Takes the newest task back.
+    /// Removes the newest task.
     pub fn pop(&mut self)
         ensures { self.new ≡ take (length self.old - 1) self.old }
     {
         self.list.pop();
     }
 
-    /// A task gets another current credential.
+    /// Gives a task another current credential.
     pub fn set_current(&mut self, task: u32, number: u64)
         ensures { self.new ≡ with_current self.old task number }
     {
@@ -175,8 +175,8 @@ impl Tasks {
         }
     }
 
-    /// The task of this number acts with another credential from now on, where it has fewer than 8
-    /// overrides. All else stays.
+    /// Lets the task of this number act with another credential from now on, where it has fewer
+    /// than 8 overrides. All else stays.
     ///
     /// # Errors
     ///
@@ -194,7 +194,7 @@ impl Tasks {
         self.list[place].push(number)
     }
 
-    /// The task acts again with the credential that it had before its newest override.
+    /// Lets the task act again with the credential that it had before its newest override.
     pub fn pop_override(&mut self, task: u32)
         ensures { OfOneTask self.old task (λ owner. self.new
             ≡ with_overrides self.old task (drop 1 owner.overrides)) }
@@ -228,7 +228,7 @@ impl Tasks {
         count(&self.list, ending)
     }
 
-    /// The numbers that those tasks refer to which end.
+    /// The numbers that the ending tasks refer to.
     ///
     /// # Errors
     ///
@@ -241,7 +241,7 @@ impl Tasks {
         Ok(numbers)
     }
 
-    /// Tasks end.
+    /// Removes the tasks that end.
     pub fn end(&mut self, ending: Ending)
         ensures { self.new ≡ survivors (ends_by ending) self.old }
     {
@@ -263,7 +263,7 @@ fn count(tasks: &[Task], ending: Ending) -> u32
     count
 }
 
-/// Appends the numbers of those tasks that end.
+/// Appends the numbers of the ending tasks.
 fn add_numbers(tasks: &[Task], ending: Ending, numbers: &mut Vec<u32>) -> Result<(), NoMemory>
     ensures { OnOk result (numbers.new.items
         ≡ numbers.old.items ++ map (λ t. t.number) (filter (ends_by ending) tasks.now)) }
@@ -276,7 +276,7 @@ fn add_numbers(tasks: &[Task], ending: Ending, numbers: &mut Vec<u32>) -> Result
     Ok(())
 }
 
-/// Appends the numbers that those of these tasks refer to which end.
+/// Appends the numbers that the ending tasks refer to.
 fn add_left(tasks: &[Task], ending: Ending, numbers: &mut Vec<u64>) -> Result<(), NoMemory>
     ensures { OnOk result (numbers.new.items
         ≡ numbers.old.items ++ left_by (ends_by ending) tasks.now) }

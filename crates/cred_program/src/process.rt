@@ -14,8 +14,8 @@ use std::sync::Wait;
 use std::thread::Threads;
 
 /// Runs the program once, on the words as they came, and returns the exit status of the process:
-/// the number of the status that the run had. Where there was no memory for the words it is that
-/// of `Memory`, and neither stream is touched.
+/// the number of the status that the run had. Where memory ran out for the words it is that of
+/// `Memory`, and neither stream is touched.
 pub fn exit_code<R: Threads + Wait + Sync, S: Source, K: Sink, G: Gate + Sync>(
     rt: &R,
     alloc: Global,

@@ -21,7 +21,7 @@ use std::alloc::Global;
 use std::sync::Wait;
 use std::thread::Threads;
 
-/// What is written to words that are no command.
+/// What is written for words that are no command.
 const USAGE: &str = "usage: credtrace run|lanes|audit|gen N|decode HEX|encode TEXT|capdata HEX\n";
 
 /// The program, over its words (those after its name), its input and its output: `run` reads a
@@ -30,8 +30,8 @@ const USAGE: &str = "usage: credtrace run|lanes|audit|gen N|decode HEX|encode TE
 /// `gen N` runs a script of N calls and writes the summary of its journal, `decode HEX` writes what
 /// an attribute says, `encode TEXT` the attribute that a text says, `capdata HEX` what a record of
 /// capset(2) says, and all other words get the usage line. It returns how that ended. For `lanes`
-/// alone it starts threads, and waits for them; each calls the gate before and after each decision
-/// that it makes.
+/// alone it starts threads, and waits for them; each calls the gate before, in and after each
+/// decision that it makes.
 ///
 /// `Done`, `NotLegal`, `Bad` and `Usage` come with the whole text, handed on, and with no fault.
 /// The source's count of faults rises for `ReadFault` alone, and the sink's for `WriteFault` alone.

@@ -29,7 +29,7 @@ pub enum Command {
     Gen(u32),
     /// Say what the bytes of a file's capability attribute say.
     Decode(Bytes),
-    /// Say which bytes a text of file capabilities is, as an attribute.
+    /// Say which bytes the attribute has that a text of file capabilities describes.
     Encode(Bytes),
     /// Say what the bytes of a record of capset(2) say.
     Capdata(Bytes),
@@ -108,7 +108,7 @@ fn generated(operand: &[u8]) -> Option<Command>
     Some(Command::Gen(count_of(operand)?))
 }
 
-/// The command `decode`; none where the operand is no bytes in hexadecimal.
+/// The command `decode`; none where the operand isn't bytes in hexadecimal.
 fn decoded(alloc: Global, operand: &[u8]) -> Result<Option<Command>, NoMemory>
     ensures command { IfOk result (λ command.
         command ≡ option_map Command.Decode (bytes_of operand.now)) }
@@ -132,7 +132,7 @@ fn encoded(alloc: Global, operand: &[u8]) -> Result<Option<Command>, NoMemory>
     Ok(Some(Command::Encode(Bytes::of(alloc, operand)?)))
 }
 
-/// The command `capdata`; none where the operand is no bytes in hexadecimal.
+/// The command `capdata`; none where the operand isn't bytes in hexadecimal.
 fn recorded(alloc: Global, operand: &[u8]) -> Result<Option<Command>, NoMemory>
     ensures command { IfOk result (λ command.
         command ≡ option_map Command.Capdata (bytes_of operand.now)) }

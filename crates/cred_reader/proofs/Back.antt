@@ -20,7 +20,7 @@ pub bare : {A : Type 0} {reads : List ℕ → List (List ℕ) → Result A Reaso
     → is_plain name ≡ true → reads name [] ≡ Ok value → IsBack name reads value
 bare name is read = record { first = name; rest = []; spaced = rw append-nil refl; plain = rw is refl; read = read }
 
--- a word, and one behind it
+-- a word, and one after it
 pub with_word : {A : Type 0} {reads : List ℕ → List (List ℕ) → Result A Reason} {value : A} (name a : List ℕ)
     → is_plain name ≡ true → is_plain a ≡ true → reads name (a ∷ []) ≡ Ok value → IsBack (name ++ 32 ∷ a) reads value
 with_word name a is own read = record {
@@ -31,7 +31,7 @@ with_word name a is own read = record {
   read = read;
 }
 
--- a word, and two behind it
+-- a word, and two after it
 pub with_two : {A : Type 0} {text : List ℕ} {reads : List ℕ → List (List ℕ) → Result A Reason} {value : A} (name a b : List ℕ)
     → 32 ∷ text ≡ spaced (name ∷ a ∷ b ∷ []) → is_plain name ≡ true → is_plain a ≡ true → is_plain b ≡ true
     → reads name (a ∷ b ∷ []) ≡ Ok value → IsBack text reads value
@@ -43,7 +43,7 @@ with_two name a b parts is first second read = record {
   read = read;
 }
 
--- a word, and three behind it
+-- a word, and three after it
 pub with_three : {A : Type 0} {text : List ℕ} {reads : List ℕ → List (List ℕ) → Result A Reason} {value : A} (name a b c : List ℕ)
     → 32 ∷ text ≡ spaced (name ∷ a ∷ b ∷ c ∷ []) → is_plain name ≡ true → is_plain a ≡ true → is_plain b ≡ true → is_plain c ≡ true
     → reads name (a ∷ b ∷ c ∷ []) ≡ Ok value → IsBack text reads value

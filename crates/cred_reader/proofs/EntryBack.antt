@@ -21,7 +21,7 @@ use Rattle.cred_reader.proofs.EventsBack.{event_back}
 use Rattle.cred_reader.proofs.Numbers.{long_number, number_back, decimal_plain}
 use Rattle.cred_reader.proofs.Words.{is_plain, is_whole, plain_whole, all_whole, spaced, spaced-append, words_back, arrow_back}
 
--- the words behind the number of the line
+-- the words after the number of the line
 abbrev behind : List (List ℕ) → List (List ℕ) → List (List ℕ)
 behind es vs = es ++ (codes "->" ∷ vs)
 

@@ -50,7 +50,7 @@ entry_line script entry fits =
 no_end : (b : ℕ) → is_printing b ≡ true → b ≡ 10 → ⊥
 no_end b printing is = absurd (let above : 31 < b = grind (arith, nat_tests) in omega (arith, above, is))
 
--- what stands before the first LF, and behind it
+-- what stands before the first LF, and after it
 same_line : (a b p q : List ℕ) → list_all is_printing a ≡ true → list_all is_printing b ≡ true → a ++ 10 ∷ p ≡ b ++ 10 ∷ q → (a ≡ b) × (p ≡ q)
 same_line [] [] p q h k is = (refl, cc)
 same_line [] (c ∷ b) p q h k is = let here : c ≡ 10 = cc in absurd (no_end c (both (is_printing c) _ k).0 here)
@@ -63,7 +63,7 @@ same_line (d ∷ a) (c ∷ b) p q h k is =
 
 -- ---- lists
 
--- the text of an entry and of those behind it
+-- the text of an entry and of those after it
 with_rest : (script : Script) (entry : Entry) (line : List ℕ) (rest : List Entry) → entry_text script entry ≡ line ++ 10 ∷ []
     → text script (entry ∷ rest) ≡ line ++ 10 ∷ text script rest
 with_rest script entry line rest is =

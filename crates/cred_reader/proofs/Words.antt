@@ -94,7 +94,7 @@ arrow_after (w ∷ ws) vs h =
     let parts = both (is_plain w) _ h in
     rw (no_arrow w parts.0) (rw (arrow_after ws vs parts.1) (omega arith))
 
--- the arrow stands behind the words of the event
+-- the arrow stands after the words of the event
 pub arrow_back : (ws vs : List (List ℕ)) → list_all is_plain ws ≡ true → position is_arrow (ws ++ (codes "->" ∷ vs)) ≡ Some (length ws)
 arrow_back ws vs h =
     let place = arrow_after ws vs h in

@@ -29,7 +29,7 @@ use Rattle.cred_reader.specs.declared.answers.Tells.TheVariants.{Flag, File}
 use Rattle.cred_reader.specs.Kinds.{task_word, label_word, cred_of, slot_word, flag_of, bits_of}
 use Rattle.cred_ids.specs.Tests.{◌>>=◌}
 
--- what a question is told
+-- what a question asks for
 abbrev pub query_tells : Query → Tells
 query_tells query.Ids = Ids
 query_tells query.Caps = Caps
@@ -40,7 +40,7 @@ query_tells (query.Bset cap) = Flag
 query_tells (query.AmbIs cap) = Flag
 query_tells (query.Check file want) = Nothing
 
--- what an event is told
+-- what an event asks for
 abbrev pub told_by : Event → Tells
 told_by (event.Ask label query) = query_tells query
 told_by (event.Dumped task) = Flag
@@ -81,7 +81,7 @@ longest words = Err Count
 unfoldable pub longer : List (List ℕ) → Result Answer Reason
 longer words = if length words == 5 then acted words else longest words
 
--- `ok` and no value, or values that no question is told
+-- `ok` with no value, or with values that answer no question
 unfoldable pub plain : List (List ℕ) → Result Answer Reason
 plain [] = Ok answer.Done
 plain (slot ∷ []) = do
@@ -211,7 +211,7 @@ read_refusal (a ∷ b ∷ []) = two_words a b
 read_refusal (a ∷ b ∷ c ∷ []) = three_words a b c
 read_refusal words = Err Count
 
--- the answer to an event that is told this
+-- the answer to an event that asks for this
 unfoldable pub read_answer : Tells → List (List ℕ) → Result Answer Reason
 read_answer told [] = Err Count
 read_answer told (word ∷ words) =

@@ -15,7 +15,7 @@ use cred_script::Script;
 use cred_spelling::{Number, Reason, five, is, one, three, two, word};
 use std::alloc::Global;
 
-/// What an event is told: how the words behind `ok` are read.
+/// What an event asks for: how the words after `ok` are read.
 #[derive(Clone, Copy)]
 pub enum Tells {
     /// It asks nothing, or whether something is allowed.
@@ -34,7 +34,7 @@ pub enum Tells {
     File,
 }
 
-/// What the event is told.
+/// What the event asks for.
 pub(crate) fn told_by(event: &Event) -> Tells
     ensures { result ≡ spec.told_by event.now }
 {
@@ -149,7 +149,7 @@ fn longer(words: &[&[u8]]) -> Result<Answer, Reason>
     }
 }
 
-/// `ok` and no value, or values that no question is told.
+/// `ok` with no value, or with values that answer no question.
 #[tactic(auto, unfolding(crate::specs::Answers::plain))]
 fn plain(words: &[&[u8]]) -> Result<Answer, Reason>
     ensures { Says (λ answer. answer) result (spec.plain (nows words.now)) }
@@ -192,7 +192,7 @@ fn file_told(words: &[&[u8]]) -> Result<Answer, Reason>
     }
 }
 
-/// What stands behind `ok`.
+/// What stands after `ok`.
 #[tactic(auto, unfolding(crate::specs::Answers::ok_words))]
 fn ok_words(alloc: Global, told: Tells, words: &[&[u8]]) -> Result<Answer, LineRefusal>
     ensures { GivesLine (λ answer. answer) result (spec.ok_words told (nows words.now)) }
@@ -225,7 +225,11 @@ fn ok_words(alloc: Global, told: Tells, words: &[&[u8]]) -> Result<Answer, LineR
     }
 }
 
-/// The answer to an event that is told this.
+/// The answer to an event that asks for this.
+///
+/// # Errors
+///
+/// `Bad` with the reason where the words are no such text, and `Memory` if memory ran out.
 #[tactic(auto, unfolding(crate::specs::Answers::read_answer))]
 pub(crate) fn read_answer(
     alloc: Global,

@@ -142,7 +142,7 @@ fn raw_of(alloc: Global, words: &[&[u8]]) -> Result<Event, LineRefusal>
     }
 }
 
-/// The event of a call on a file, which the hold decides.
+/// The event of a call on a file, which is decided on the hold's credential.
 fn calling(hold: u32, call: FileCall) -> Event
     ensures { result ≡ calling hold call }
 {
@@ -201,7 +201,7 @@ fn read_open(script: &Script, words: &[&[u8]]) -> Result<Event, Reason>
     }
 }
 
-/// An event whose text has a label behind its first word, by its name.
+/// An event whose text has a label after its first word, by its name.
 #[tactic(auto, unfolding(crate::specs::Events::label_event))]
 fn label_event(script: &Script, name: LabelEvent, words: &[&[u8]]) -> Result<Event, Reason>
     ensures { Says (λ event. event) result
@@ -233,7 +233,7 @@ fn label_event(script: &Script, name: LabelEvent, words: &[&[u8]]) -> Result<Eve
     }
 }
 
-/// An event whose text has a task behind its first word, by its name.
+/// An event whose text has a task after its first word, by its name.
 #[tactic(auto, unfolding(crate::specs::Events::task_event))]
 fn task_event(alloc: Global, name: TaskEvent, words: &[&[u8]]) -> Result<Event, LineRefusal>
     ensures { GivesLine (λ event. event) result (spec.task_event name (nows words.now)) }
@@ -275,7 +275,7 @@ fn task_event(alloc: Global, name: TaskEvent, words: &[&[u8]]) -> Result<Event, 
     }
 }
 
-/// How it is asked for, and then two tasks, each with the label that holds its credential.
+/// The access mode, and then two tasks, each with the label that holds its credential.
 #[tactic(auto, unfolding(crate::specs::Events::ptrace_of))]
 fn ptrace_of(words: &[&[u8]]) -> Result<Event, Reason>
     ensures { Says (λ event. event) result (spec.ptrace_of (nows words.now)) }
@@ -297,7 +297,7 @@ fn ptrace_of(words: &[&[u8]]) -> Result<Event, Reason>
     }
 }
 
-/// An event, by its name and the words behind it.
+/// An event, by its name and the words after it.
 #[tactic(auto, unfolding(crate::specs::Events::event_named))]
 fn event_named(
     alloc: Global,
@@ -327,6 +327,10 @@ fn event_named(
 }
 
 /// The event that the words are the text of.
+///
+/// # Errors
+///
+/// `Bad` with the reason where the words are no such text, and `Memory` if memory ran out.
 #[tactic(auto, unfolding(crate::specs::Events::read_event))]
 pub(crate) fn read_event(
     alloc: Global,

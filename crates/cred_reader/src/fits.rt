@@ -7,7 +7,7 @@ use cred_event::{Change, Event, Query};
 use cred_script::Script;
 use cred_spelling::name_of;
 
-/// Whether the script declares a file at this place, whose name is a name.
+/// Whether the script declares a file at this place, with a valid name.
 fn is_file(script: &Script, place: u32) -> bool
     ensures { IsTrue result ↔ spec.IsFile script.now place }
 {

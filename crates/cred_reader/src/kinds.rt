@@ -1,4 +1,4 @@
-//! The kinds of words that entries have and scripts spell otherwise.
+//! The kinds of words that entries spell otherwise than scripts.
 ghost use Rattle.std.specs.Prelude.{◌≡◌};
 ghost use Rattle.cred_spelling.specs.Spellings.{number_of};
 ghost use Rattle.cred_spelling.specs.Spellings as spelling;
@@ -7,7 +7,7 @@ ghost use Rattle.cred_reader.specs.Kinds as spec;
 use cred_caps::SecureBits;
 use cred_spelling::{Number, Spelling, long_of, mode_of, named};
 
-/// The number behind a letter.
+/// The number after a letter.
 fn behind(letter: u8, word: &[u8]) -> Option<u32>
     ensures { result ≡ spec.behind letter number_of word.now }
 {

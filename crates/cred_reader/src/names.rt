@@ -7,20 +7,20 @@ use cred_spelling::{FileCallName, named};
 /// The events of a report, by the word that their text begins with.
 #[derive(Clone, Copy)]
 pub enum EventName {
-    /// A label stands behind the word.
+    /// A label stands after the word.
     Label(LabelEvent),
-    /// A task stands behind the word.
+    /// A task stands after the word.
     Task(TaskEvent),
     Act,
     CloseFile,
     Sweep,
-    /// How it is asked for stands behind the word.
+    /// The access mode stands after the word.
     Ptrace,
-    /// A label stands behind the word, and then the file.
+    /// A label stands after the word, and then the file.
     File(FileCallName),
 }
 
-/// The events whose text has a label behind its first word.
+/// The events whose text has a label after its first word.
 #[derive(Clone, Copy)]
 pub enum LabelEvent {
     Take,
@@ -35,7 +35,7 @@ pub enum LabelEvent {
     OpenFile,
 }
 
-/// The events whose text has a task behind its first word.
+/// The events whose text has a task after its first word.
 #[derive(Clone, Copy)]
 pub enum TaskEvent {
     Init,

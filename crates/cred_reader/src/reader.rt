@@ -1,4 +1,4 @@
-//! Entries.
+//! An entry, read from its text.
 ghost use Rattle.std.specs.Prelude.{◌≡◌, ◌<◌, ◌+◌, IfOk, IfSome, Some, drop, length, position};
 ghost use Rattle.std.specs.Prelude.{take, true};
 ghost use Rattle.cred_event.specs.declared.entry.Entry.{Entry as SeenEntry};
@@ -27,7 +27,7 @@ use std::alloc::Global;
 ///
 /// # Errors
 ///
-/// `NoMemory` where there is none for the words, for the entry or for its text.
+/// `NoMemory` if an allocation for the words, the entry or its text fails.
 pub fn read(alloc: Global, script: &Script, line: &[u8]) -> Result<Option<Entry>, NoMemory>
     ensures value { IfOk result (λ found. IfSome found
         (λ entry. (entry_text script.now entry ≡ line.now) × Fits script.now entry)) }
@@ -116,7 +116,7 @@ fn read_entry(alloc: Global, script: &Script, words: &[&[u8]]) -> Result<Entry, 
     }
 }
 
-/// Where the arrow stands, which parts an event from its answer.
+/// Where the arrow between an event and its answer stands.
 fn arrow(words: &[&[u8]]) -> Option<usize>
     ensures place { result ≡ position spec.is_arrow (nows words.now) }
     ensures within { IfSome result (λ place. place < length words.now) }
@@ -132,7 +132,7 @@ fn before<'b>(words: &'b [&'b [u8]], place: usize) -> &'b [&'b [u8]]
     &words[..place]
 }
 
-/// The words behind a place.
+/// The words after a place.
 fn behind<'b>(words: &'b [&'b [u8]], place: usize) -> &'b [&'b [u8]]
     requires { place < length words.now }
     ensures { nows result.now ≡ drop (place + 1) (nows words.now) }

@@ -26,7 +26,7 @@ fn one_word(word: &[u8]) -> Option<Answer>
     None
 }
 
-/// What a number that stands already is the number of, by its letter.
+/// What kind of thing exists already, by its letter.
 fn what_of(byte: u8) -> Option<Named>
     ensures { result ≡ spec.what_of byte }
 {
@@ -40,7 +40,7 @@ fn what_of(byte: u8) -> Option<Named>
     }
 }
 
-/// What stands already.
+/// What exists already.
 #[tactic(auto, unfolding(crate::specs::Answers::exists_of))]
 fn exists_of(text: &[u8]) -> Result<Answer, Reason>
     ensures { Says (λ answer. answer) result (spec.exists_of text.now) }
@@ -150,6 +150,10 @@ fn three_words(a: &[u8], b: &[u8], c: &[u8]) -> Result<Answer, Reason>
 }
 
 /// A refusal.
+///
+/// # Errors
+///
+/// The reason where the words are no refusal.
 #[tactic(auto, unfolding(crate::specs::Answers::read_refusal))]
 pub(crate) fn read_refusal(words: &[&[u8]]) -> Result<Answer, Reason>
     ensures { Says (λ answer. answer) result (spec.read_refusal (nows words.now)) }

@@ -1,4 +1,4 @@
--- A number's last digit behind those that were kept of it.
+-- A number's last digit after those that were kept of it.
 use Rattle.std.proofs.Common.{◌≡◌, ℕ, ◌+◌, ◌-◌, ◌/◌, ◌%◌, ◌^◌, ◌<◌, ◌≤◌, List, [], ◌∷◌, ◌++◌, length, take, drop, set, sym, ap, ◌∙◌, refl, append_assoc}
 use Rattle.std.proofs.Common.{decimal, arith}
 use Rattle.std.proofs.Math.Seq.{drop_at, length-take-le}
@@ -6,7 +6,7 @@ use Rattle.std.proofs.lemmas.List.{drop-drop, drop-append-le, drop-set}
 use Rattle.std.proofs.lemmas.Fmt.{decimal_digit, decimal_step}
 use borrow.Rule.Slice.PartMut.{put_mid}
 
--- the end of what was put in the place of a part, and what stands behind it
+-- the end of what was put in the place of a part, and what stands after it
 pub past_put : (at k first : ℕ) (xs ys : List ℕ) → at + k ≤ length xs → length ys ≡ k → first ≤ k
     → drop (at + first) (put_mid at k xs ys) ≡ drop first ys ++ drop (at + k) xs
 past_put at k first xs ys within long le =

@@ -1,4 +1,4 @@
--- The text of what a question is told.
+-- The text of the values that answer a question.
 use Rattle.std.specs.Prelude.{ℕ, ◌+◌, ◌/◌, ◌%◌, List, [], ◌∷◌, ◌++◌, codes, decimal}
 use Rattle.cred_ids.specs.declared.id.Ids4.{Ids4}
 use Rattle.cred_event.specs.declared.answer.Told.{Told}

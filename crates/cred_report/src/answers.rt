@@ -1,4 +1,4 @@
-//! Answers.
+//! The text of an answer.
 ghost use Rattle.std.specs.Prelude.{◌≡◌, ◌≤◌, ◌+◌, ◌++◌, OnOk, codes, decimal, length};
 ghost use Rattle.cred_report.specs.Answers.{exists_text, too_many_text, cause_text};
 ghost use Rattle.cred_report.specs.Numbers.{set_text};
@@ -13,7 +13,7 @@ use cred_event::{AbortCause, Answer, Counted, Named};
 use cred_ids::NoMemory;
 use cred_record::Gains;
 
-/// The words before the number of a thing that stands already.
+/// The words before the number of what exists already.
 fn exists_word(what: Named) -> &'static str
     ensures text { result.now ≡ exists_text what }
     ensures short { length result.now ≤ WORD }
@@ -144,6 +144,10 @@ fn prepend_aborted(out: &mut Pen, task: u32, cause: AbortCause)
 }
 
 /// Writes the answer.
+///
+/// # Errors
+///
+/// `NoMemory` where the buffer cannot grow. Nothing is said of what it holds then.
 // Called at one place alone, for each entry.
 #[inline(always)]
 pub(crate) fn prepend_answer(out: &mut Pen, answer: &Answer) -> Result<(), NoMemory>

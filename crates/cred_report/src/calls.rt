@@ -15,7 +15,7 @@ use cred_script::Script;
 
 /// Writes a call of one argument.
 #[inline(always)]
-fn prepend_one(out: &mut Pen, word: &str, id: Arg)
+fn prepend_one_arg(out: &mut Pen, word: &str, id: Arg)
     requires { length word.now + ARG ≤ out.old.room }
     ensures text { out.new.text ≡ (word.now ++ arg_text id) ++ out.old.text }
     ensures room { out.old.room ≤ out.new.room + (length word.now + ARG) }
@@ -26,46 +26,50 @@ fn prepend_one(out: &mut Pen, word: &str, id: Arg)
 
 /// Writes a call of two arguments.
 #[inline(always)]
-fn prepend_two(out: &mut Pen, word: &str, real: Arg, effective: Arg)
+fn prepend_two_args(out: &mut Pen, word: &str, real: Arg, effective: Arg)
     requires { length word.now + 2 * ARG ≤ out.old.room }
     ensures text { out.new.text
         ≡ (word.now ++ arg_text real ++ arg_text effective) ++ out.old.text }
     ensures room { out.old.room ≤ out.new.room + (length word.now + 2 * ARG) }
 {
     prepend_arg(out, effective);
-    prepend_one(out, word, real)
+    prepend_one_arg(out, word, real)
 }
 
 /// Writes a call of three arguments.
 #[inline(always)]
-fn prepend_three(out: &mut Pen, word: &str, real: Arg, effective: Arg, saved: Arg)
+fn prepend_three_args(out: &mut Pen, word: &str, real: Arg, effective: Arg, saved: Arg)
     requires { length word.now + 3 * ARG ≤ out.old.room }
     ensures text { out.new.text
         ≡ (word.now ++ arg_text real ++ arg_text effective ++ arg_text saved) ++ out.old.text }
     ensures room { out.old.room ≤ out.new.room + (length word.now + 3 * ARG) }
 {
     prepend_arg(out, saved);
-    prepend_two(out, word, real, effective)
+    prepend_two_args(out, word, real, effective)
 }
 
 /// Writes the id call.
+///
+/// # Errors
+///
+/// `NoMemory` where the buffer cannot grow. Nothing is said of what it holds then.
 pub(crate) fn prepend_call(out: &mut Pen, call: &IdCall) -> Result<(), NoMemory>
     requires { BEFORE_CALL + CALL ≤ out.old.room }
     ensures text { OnOk result (out.new.text ≡ call_text call.now ++ out.old.text) }
     ensures room { OnOk result (BEFORE_CALL ≤ out.new.room) }
 {
     match call {
-        IdCall::SetUid(id) => prepend_one(out, "setuid", *id),
-        IdCall::SetEuid(id) => prepend_one(out, "seteuid", *id),
-        IdCall::SetReuid(real, effective) => prepend_two(out, "setreuid", *real, *effective),
+        IdCall::SetUid(id) => prepend_one_arg(out, "setuid", *id),
+        IdCall::SetEuid(id) => prepend_one_arg(out, "seteuid", *id),
+        IdCall::SetReuid(real, effective) => prepend_two_args(out, "setreuid", *real, *effective),
         IdCall::SetResuid(real, effective, saved) => {
-            prepend_three(out, "setresuid", *real, *effective, *saved)
+            prepend_three_args(out, "setresuid", *real, *effective, *saved)
         }
-        IdCall::SetGid(id) => prepend_one(out, "setgid", *id),
-        IdCall::SetEgid(id) => prepend_one(out, "setegid", *id),
-        IdCall::SetRegid(real, effective) => prepend_two(out, "setregid", *real, *effective),
+        IdCall::SetGid(id) => prepend_one_arg(out, "setgid", *id),
+        IdCall::SetEgid(id) => prepend_one_arg(out, "setegid", *id),
+        IdCall::SetRegid(real, effective) => prepend_two_args(out, "setregid", *real, *effective),
         IdCall::SetResgid(real, effective, saved) => {
-            prepend_three(out, "setresgid", *real, *effective, *saved)
+            prepend_three_args(out, "setresgid", *real, *effective, *saved)
         }
         IdCall::SetGroups(groups) => {
             prepend_ids(out, groups.items())?;
@@ -97,14 +101,18 @@ fn prepend_adjust(out: &mut Pen, call: AdjCall)
 }
 
 /// Writes the change.
+///
+/// # Errors
+///
+/// `NoMemory` where the buffer cannot grow. Nothing is said of what it holds then.
 pub(crate) fn prepend_change(out: &mut Pen, script: &Script, change: Change) -> Result<(), NoMemory>
     requires { BEFORE_CALL + CALL ≤ out.old.room }
     ensures text { OnOk result (out.new.text ≡ change_text script.now change ++ out.old.text) }
     ensures room { OnOk result (BEFORE_CALL ≤ out.new.room) }
 {
     match change {
-        Change::SetFs(Kind::User, id) => prepend_one(out, "setfsuid", id),
-        Change::SetFs(Kind::Group, id) => prepend_one(out, "setfsgid", id),
+        Change::SetFs(Kind::User, id) => prepend_one_arg(out, "setfsuid", id),
+        Change::SetFs(Kind::Group, id) => prepend_one_arg(out, "setfsgid", id),
         Change::Adjust(call) => prepend_adjust(out, call),
         Change::Exec { file } => {
             prepend_file(out, script, file)?;

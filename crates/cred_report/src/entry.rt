@@ -1,4 +1,4 @@
-//! Entries of the journal.
+//! The text of an entry, and of many.
 ghost use Rattle.std.specs.Prelude.{◌≡◌, ◌++◌, OnOk, IfOk};
 ghost use Rattle.cred_report.specs.Text.{entry_text, text};
 
@@ -35,7 +35,7 @@ pub fn prepend(out: &mut Pen, script: &Script, entry: &Entry) -> Result<(), NoMe
 /// # Errors
 ///
 /// `NoMemory` where the buffer cannot grow. Nothing is said of what it holds then.
-// A function of its own, in which no call stands for an entry.
+// Not inlined itself: all that an entry needs is inlined here.
 #[inline(never)]
 pub fn prepend_all(out: &mut Pen, script: &Script, entries: &[Entry]) -> Result<(), NoMemory>
     ensures { OnOk result (out.new.text ≡ text script.now entries.now ++ out.old.text) }
@@ -53,7 +53,7 @@ pub fn prepend_all(out: &mut Pen, script: &Script, entries: &[Entry]) -> Result<
 ///
 /// # Errors
 ///
-/// `NoMemory` where there is none for the text.
+/// `NoMemory` if an allocation for the text fails.
 pub fn print(alloc: Global, script: &Script, entry: &Entry) -> Result<Text, NoMemory>
     ensures { IfOk result (λ text. text ≡ entry_text script.now entry.now) }
 {

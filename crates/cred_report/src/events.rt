@@ -1,4 +1,4 @@
-//! Events.
+//! The text of an event.
 ghost use Rattle.std.specs.Prelude.{◌≡◌, ◌≤◌, ◌+◌, ◌++◌, OnOk, codes, decimal};
 ghost use Rattle.cred_report.specs.Calls.{call_text};
 ghost use Rattle.cred_report.specs.Events.{take_text, trace_text, event_text};
@@ -29,7 +29,7 @@ fn prepend_init(out: &mut Pen, task: u32, process: u32, user: Id, group: Id, ns:
 
 /// Writes the taking of a credential of a task. Each word is written in an arm of its own, where
 /// its length is known, and needs no call.
-// As all that many entries need, it is no call of its own.
+// Inlined, as is all that many entries need.
 #[inline(always)]
 fn prepend_take(out: &mut Pen, label: u32, task: u32, side: Side)
     requires { EVENT ≤ out.old.room }
@@ -143,7 +143,8 @@ fn prepend_raw(out: &mut Pen, task: u32, call: &IdCall) -> Result<(), NoMemory>
     Ok(())
 }
 
-/// Writes the step of a thread in a call, which is told by its line: mostly that of the entry.
+/// Writes the step of a thread in a broadcast, which is named by the line that began it: mostly
+/// that of the entry.
 #[inline(always)]
 fn prepend_act(out: &mut Pen, broadcast: u32)
     requires { EVENT ≤ out.old.room }
@@ -178,6 +179,10 @@ fn prepend_open(
 }
 
 /// Writes the event.
+///
+/// # Errors
+///
+/// `NoMemory` where the buffer cannot grow. Nothing is said of what it holds then.
 // Called at one place alone, for each entry.
 #[inline(always)]
 pub(crate) fn prepend_event(out: &mut Pen, script: &Script, event: &Event) -> Result<(), NoMemory>

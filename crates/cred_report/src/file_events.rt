@@ -39,6 +39,10 @@ fn prepend_hex(out: &mut Pen, bytes: &[u8]) -> Result<(), NoMemory>
 }
 
 /// Writes a change of the file's owner and group.
+///
+/// # Errors
+///
+/// `NoMemory` where the buffer cannot grow. Nothing is said of what it holds then.
 pub(crate) fn prepend_chown(
     out: &mut Pen,
     script: &Script,
@@ -61,6 +65,10 @@ pub(crate) fn prepend_chown(
 }
 
 /// Writes a change of its mode.
+///
+/// # Errors
+///
+/// `NoMemory` where the buffer cannot grow. Nothing is said of what it holds then.
 pub(crate) fn prepend_chmod(
     out: &mut Pen,
     script: &Script,
@@ -81,6 +89,10 @@ pub(crate) fn prepend_chmod(
 }
 
 /// Writes a change of its attribute.
+///
+/// # Errors
+///
+/// `NoMemory` where the buffer cannot grow. Nothing is said of what it holds then.
 pub(crate) fn prepend_set_attr(
     out: &mut Pen,
     script: &Script,
@@ -111,6 +123,10 @@ pub(crate) fn prepend_set_attr(
 }
 
 /// Writes the question how it stands.
+///
+/// # Errors
+///
+/// `NoMemory` where the buffer cannot grow. Nothing is said of what it holds then.
 pub(crate) fn prepend_stat(
     out: &mut Pen,
     script: &Script,

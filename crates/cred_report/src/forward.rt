@@ -2,7 +2,7 @@
 ghost use Rattle.std.specs.Prelude.{◌≡◌, ◌++◌, OnOk, decimal};
 ghost use Rattle.cred_report.specs.Numbers.{set_text, flag_text};
 
-use crate::numbers::{MAX_DIGITS, write_digits};
+use crate::numbers::{MAX_DIGITS, write_hex_digits};
 use cred_caps::CapSet;
 use cred_ids::NoMemory;
 use itoa::Buffer;
@@ -40,7 +40,7 @@ pub fn append_set(out: &mut Vec<u8>, set: CapSet) -> Result<(), NoMemory>
 {
     append_word(out, " ")?;
     let mut digits = [0; MAX_DIGITS];
-    let first = write_digits(&mut digits, set.bits());
+    let first = write_hex_digits(&mut digits, set.bits());
     Ok(out.extend_from_slice(&digits[first..])?)
 }
 

@@ -25,7 +25,7 @@ fn digit_of(number: u64) -> u8
 }
 
 /// Writes the number's hexadecimal digits to the end of the buffer, and returns where they begin.
-pub(crate) fn write_digits(digits: &mut [u8; MAX_DIGITS], number: u64) -> usize
+pub(crate) fn write_hex_digits(digits: &mut [u8; MAX_DIGITS], number: u64) -> usize
     ensures within { result < MAX_DIGITS }
     ensures digits { drop result digits.new ≡ hexadecimal number }
 {
@@ -41,7 +41,7 @@ pub(crate) fn write_digits(digits: &mut [u8; MAX_DIGITS], number: u64) -> usize
 }
 
 /// Writes a space, and the set in lower-case hexadecimal. Most sets of a report are empty or full:
-/// those are words, which take no division.
+/// those are written as words, without a division.
 pub fn prepend_set(out: &mut Pen, set: CapSet)
     requires { SET ≤ out.old.room }
     ensures text { out.new.text ≡ set_text set ++ out.old.text }
@@ -61,7 +61,7 @@ fn prepend_bits(out: &mut Pen, bits: u64)
     ensures room { out.old.room ≤ out.new.room + SET }
 {
     let mut digits = [0; MAX_DIGITS];
-    let first = write_digits(&mut digits, bits);
+    let first = write_hex_digits(&mut digits, bits);
     out.piece(&digits[first..]);
     prepend_word(out, " ")
 }

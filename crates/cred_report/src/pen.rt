@@ -8,13 +8,13 @@ use itoa::write_digits;
 use std::alloc::Global;
 use std::marker::Model;
 
-/// Room for the parts of one entry, but for names and lists of ids. It is more than they take,
-/// which `specs/Room.antt` adds up.
+/// Room for the parts of one entry, but for names and lists of ids. It is more than they take, as
+/// `specs/Room.antt` adds up.
 pub const PARTS: usize = 512;
 
 /// A text in a buffer that is filled from its end, so that the digits of a number come out in the
-/// order in which division gives them, and none is moved. Who writes makes room first, once for
-/// many pieces. Contracts see the text, and how many bytes have room before it.
+/// order in which division gives them, and none is moved. A caller makes room first, once for many
+/// pieces. Contracts see the text, and how many bytes have room before it.
 #[derive(Drop, Debug)]
 pub struct Pen {
     alloc: Global,
@@ -39,7 +39,7 @@ impl Model for Pen {
 }
 
 impl Pen {
-    /// No text.
+    /// A pen that has written nothing.
     pub fn new(alloc: Global) -> Pen
         ensures { result.text ≡ [] }
     {
@@ -134,9 +134,9 @@ impl Pen {
         self.piece(word);
     }
 
-    /// Writes the last bytes of the word, so many, before the text, if it has as many, and returns
-    /// those before them. They are copied to an array of their own first, which nothing overlaps:
-    /// so the copy from there takes no test for that. Where the word is known, nothing of the first
+    /// Writes the last `N` bytes of the word before the text, if it has as many, and returns the
+    /// bytes before them. They are copied to an array first, which can't overlap the buffer: so the
+    /// copy from there needs no test for that. Where the word is a constant, nothing of the first
     /// copy is left in the program.
     #[inline(always)]
     fn end_of<'w, const N: usize>(&mut self, word: &'w [u8]) -> &'w [u8]

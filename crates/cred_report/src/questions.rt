@@ -12,6 +12,10 @@ use cred_script::Script;
 
 /// Writes the name of the file at this place among the script's files, and makes room for the
 /// entry's other parts.
+///
+/// # Errors
+///
+/// `NoMemory` where the buffer cannot grow. Nothing is said of what it holds then.
 pub(crate) fn prepend_file(out: &mut Pen, script: &Script, place: u32) -> Result<(), NoMemory>
     requires { BEFORE_FILE ≤ out.old.room }
     ensures text { OnOk result (out.new.text ≡ file_text script.now place ++ out.old.text) }
@@ -34,7 +38,7 @@ fn prepend_name(out: &mut Pen, name: &str) -> Result<(), NoMemory>
     Ok(())
 }
 
-/// Writes the letters of what is wanted.
+/// Writes the letters of the permissions that are wanted.
 pub(crate) fn prepend_letters(out: &mut Pen, want: Want)
     requires { LETTERS ≤ out.old.room }
     ensures text { out.new.text ≡ want_text want ++ out.old.text }
@@ -52,6 +56,10 @@ pub(crate) fn prepend_letters(out: &mut Pen, want: Want)
 }
 
 /// Writes the question.
+///
+/// # Errors
+///
+/// `NoMemory` where the buffer cannot grow. Nothing is said of what it holds then.
 pub(crate) fn prepend_query(out: &mut Pen, script: &Script, query: Query) -> Result<(), NoMemory>
     requires { BEFORE_CALL + CALL ≤ out.old.room }
     ensures text { OnOk result (out.new.text ≡ query_text script.now query ++ out.old.text) }

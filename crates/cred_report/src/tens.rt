@@ -8,14 +8,14 @@ use std::marker::Model;
 /// How many digits are kept at most, those of a number of 32 bits among them.
 const PLACES: usize = 16;
 
-/// The digits of the last number that was written, but for its last one. The numbers of lines, and
-/// those of labels, mostly differ in that alone from the ones before them, and then no digit is
-/// found by division. Contracts see the number that the digits are those of.
+/// All digits but the last of the number that was written before. The numbers of lines, and those
+/// of labels, mostly differ from the ones before them in the last digit alone, and then only that
+/// one is found by division. Contracts see the number that these digits spell.
 #[derive(Drop, Debug)]
 pub(crate) struct Tens {
     number: u32,
-    /// They stand at the end, and are copied with what is before them: a copy of a length that is
-    /// known takes no call.
+    /// They stand at the end, and are copied with what is before them: a copy of a constant length
+    /// takes no call.
     digits: [u8; PLACES],
     first: usize,
 }
@@ -62,7 +62,7 @@ impl Tens {
         ensures written { drop result buf.new ≡ decimal self.now ++ drop end buf.old }
     {
         let from = end - PLACES;
-        // A copy of its own, of which it is known that the buffer doesn't overlap it.
+        // A copy, which the buffer can't overlap: so it takes no test for that.
         let digits = self.digits;
         buf[from..end].copy_from_slice(&digits);
         from + self.first

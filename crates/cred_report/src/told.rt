@@ -1,4 +1,4 @@
-//! What a question is told.
+//! The values that answer a question.
 ghost use Rattle.std.specs.Prelude.{◌≡◌, ◌≤◌, ◌<◌, ◌+◌, ◌++◌, OnOk, codes, length};
 ghost use Rattle.cred_report.specs.Told as spec;
 ghost use Rattle.cred_report.specs.Told.{ids4_text, mode_text, told_text};
@@ -45,7 +45,11 @@ fn octal(digit: u16) -> u8
     b'0' + digit as u8
 }
 
-/// Writes what is told, after `ok`.
+/// Writes `ok`, and the values after it.
+///
+/// # Errors
+///
+/// `NoMemory` where the buffer cannot grow. Nothing is said of what it holds then.
 pub(crate) fn prepend_told(out: &mut Pen, told: &Told) -> Result<(), NoMemory>
     requires { BEFORE_ANSWER + ANSWER ≤ out.old.room }
     ensures text { OnOk result (out.new.text
@@ -57,7 +61,7 @@ pub(crate) fn prepend_told(out: &mut Pen, told: &Told) -> Result<(), NoMemory>
     Ok(())
 }
 
-/// Writes what is told.
+/// Writes the values.
 fn prepend_values(out: &mut Pen, told: &Told) -> Result<(), NoMemory>
     requires { BEFORE_ANSWER + ANSWER ≤ out.old.room }
     ensures text { OnOk result (out.new.text ≡ told_text told.now ++ out.old.text) }

@@ -1,4 +1,4 @@
-//! Words, and words with a number behind each.
+//! Words, and words with a number after each.
 ghost use Rattle.std.specs.Prelude.{◌≡◌, ◌≤◌, ◌+◌, ◌*◌, ◌++◌, decimal, length};
 ghost use Rattle.cred_report.specs.Room.{NUMBER};
 
@@ -14,7 +14,7 @@ pub fn prepend_word(out: &mut Pen, word: &str)
     out.word(word)
 }
 
-/// Writes the word and the number, which may be one of a credential.
+/// Writes the word and the number, of 64 bits as a credential's number is.
 #[inline(always)]
 pub fn prepend_long(out: &mut Pen, word: &str, number: u64)
     requires { length word.now + NUMBER ≤ out.old.room }

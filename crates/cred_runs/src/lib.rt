@@ -1,7 +1,6 @@
 //! `lanes` over its input and its output. Read it as part of `cred_commands`.
 //!
-//! It reads a script, runs its lanes as threads, and writes the report of the journal that came
-//! about.
+//! It reads a script, runs its lanes as threads, and writes the report of their journal.
 #![tactic(auto)]
 
 mod report;

@@ -13,7 +13,7 @@ use cred_said::{Status, finish, write_last};
 use cred_script::Script;
 use std::alloc::Global;
 
-/// Writes the report of a journal through one buffer, as the text of a command, and says how the
+/// Writes the report of a journal through one buffer, as the text of a command, and returns how the
 /// command ends.
 pub(crate) fn report<K: Sink>(
     alloc: Global,

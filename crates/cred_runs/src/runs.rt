@@ -13,9 +13,9 @@ use std::alloc::Global;
 use std::sync::Wait;
 use std::thread::Threads;
 
-/// Reads a script to its end, runs its lanes as threads, and writes the report of the journal that
-/// came about, or the script's first bad line. Each lane comes to the gate before and after each of
-/// its decisions. It waits for threads alone, and for none where the input is no script.
+/// Reads a script to its end, runs its lanes as threads, and writes the report of their journal, or
+/// the script's first bad line. Each lane comes to the gate before, in and after each of its
+/// decisions. It waits for threads alone, and for none where the input is no script.
 pub fn read_and_lanes<R: Threads + Wait + Sync, S: Source, K: Sink, G: Gate + Sync>(
     rt: &R,
     alloc: Global,

@@ -84,7 +84,7 @@ cut_by script journal bytes so_far (inr in_one) =
       });
     }
 
--- Each prefix of the text of a journal that is one so far stops behind an entry, or in the next one of a lane.
+-- Each prefix of the text of a journal that is one so far stops after an entry, or in the next one of a lane.
 pub prefix_is_cut : (script : Script) (journal : List Entry) (count : ℕ) → SoFar script journal → IsCut script (take count (text script journal))
 prefix_is_cut script journal count so_far =
     cut_by script journal (take count (text script journal)) so_far (stops (entry_text script) journal count)

@@ -1,4 +1,4 @@
-//! Reading a script to its end, and saying why there is none.
+//! Reading a script to its end, or writing why the input is none.
 ghost use Rattle.std.specs.Prelude.{◌≡◌, ◌≤◌, ◌⊎◌, IfOk, IfErr, MatchResult, length};
 ghost use Rattle.cred_ids.specs.Limits.{BYTE_LIMIT};
 ghost use Rattle.cred_said.specs.Ends.{status_so_far};

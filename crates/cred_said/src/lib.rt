@@ -1,9 +1,10 @@
-//! How a command reads its script, what it says in place of a report, and how it ends: statuses,
+//! How a command reads its script, what it writes in place of a report, and how it ends: statuses,
 //! what a failed read or write leaves. Read it as part of `cred_commands`.
 //!
 //! `specs/Ends` and `Leaves` say what a command that runs a script leaves by each status, `Scripts`
-//! what it has read, `Cuts` what of a journal that isn't written whole, `Telling` and `Texts` what
-//! is said, and `Statuses` the exit status of each way in which the program ends.
+//! what it has read, `Cuts` what is written of a journal where a write fails, `Telling` and `Texts`
+//! what is written in place of a report, and `Statuses` the exit status of each way in which the
+//! program ends.
 #![tactic(auto)]
 
 mod input;

@@ -1,4 +1,4 @@
-//! What is said of bytes that are no script.
+//! The text for bytes that are no script: their first bad line.
 ghost use Rattle.std.specs.Prelude.{◌≡◌, IfOk, string_bytes};
 ghost use Rattle.cred_said.specs.Telling.{SaysRefusal};
 ghost use Rattle.cred_said.specs.Texts as spec;

@@ -1,5 +1,5 @@
-//! Short texts: what a command says in place of a report. Here alone they are written, and handed
-//! on: what a buffer keeps back can still be lost.
+//! Short texts: what a command writes in place of a report. They are written here alone, and the
+//! sink is flushed: what a buffer keeps back can still be lost.
 ghost use Rattle.std.specs.Prelude.{◌≡◌, true, IfOk, OnOk, OnErr, string_bytes};
 ghost use Rattle.std.specs.Io.KnownBytes.{Appends};
 ghost use Rattle.cred_io.specs.Causes.{CountsFaults};
@@ -12,12 +12,12 @@ use crate::status::{Status, finish};
 use cred_ids::NoMemory;
 use cred_io::{Sink, SinkRefusal, write_all};
 
-/// What is said in place of a report, and the status if all of it was written.
+/// What a command writes in place of a report, and the status if all of it was written.
 #[derive(Drop, Debug)]
 pub struct Said {
     /// How the command ends, if all of the text was written.
     pub status: Status,
-    /// What is said.
+    /// The text.
     pub text: Vec<u8>,
 }
 
@@ -34,8 +34,8 @@ impl Said {
     }
 }
 
-/// Writes a short text, and says how the command ends: with this status, if all of it was written
-/// and handed on.
+/// Writes a short text, and returns how the command ends: with this status, if all of it was
+/// written and handed on.
 pub fn tell<K: Sink>(sink: &mut K, status: Status, text: &[u8]) -> Status
     requires { IsWhole status }
     ensures told { Tells status text.now result (K.written sink.old) (K.written sink.new) }
@@ -45,7 +45,8 @@ pub fn tell<K: Sink>(sink: &mut K, status: Status, text: &[u8]) -> Status
     finish(write_text(sink, text), status)
 }
 
-/// The same of what is said; nothing is written where memory ran out before there was a text.
+/// The same for a text with its status; nothing is written where memory ran out before there was a
+/// text.
 pub fn tell_said<K: Sink>(sink: &mut K, said: Result<Said, NoMemory>) -> Status
     requires { IfOk said (λ said. IsWhole said.status) }
     ensures told { TellsSaid said result (K.written sink.old) (K.written sink.new)

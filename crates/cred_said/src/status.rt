@@ -39,7 +39,7 @@ impl Status {
     }
 }
 
-/// How a command ends whose input was not read.
+/// How a command ends that could not read its input.
 impl From<ReadRefusal> for Status {
     ghost use Rattle.cred_said.specs.Ends.{status_unread};
 

@@ -84,7 +84,7 @@ impl Roll {
         self.lend_as::<Brand>(lane, numbers)
     }
 
-    /// The same at an order that has the lane and the numbers.
+    /// The same by an order that has the lane and the numbers.
     fn lend_as<O: Order>(&mut self, lane: u32, numbers: LaneNumbers) -> Pass
         requires order { (lane ≡ O.lane) × (numbers ≡ O.numbers) }
         requires lane { HasRow self.old.rows O.lane }

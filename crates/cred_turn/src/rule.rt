@@ -3,7 +3,7 @@ use crate::view::TurnView;
 use atomic_table::{Join, Play, Split, TableRule};
 use std::marker::{Brand, PhantomData};
 
-/// The rule. The table is told the number of lanes when it is made.
+/// The rule. The table gets the number of lanes when it is made.
 pub struct PassRule;
 
 impl TableRule<(), TurnView, u32> for PassRule {
@@ -43,7 +43,7 @@ impl<O: Order> Split<TurnView> for Lends<O> {
     ghost right = { λ _. pass_of O.lane O.numbers };
 }
 
-/// Takes a seat back, and keeps its pass aside.
+/// Takes a seat back, and sets its pass aside.
 pub struct Returns;
 
 impl Join<TurnView> for Returns {
@@ -55,7 +55,7 @@ impl Join<TurnView> for Returns {
     ghost spent = { Spent };
 }
 
-/// Finds the row of the pass that is kept aside as it was lent, and marks it as not lent.
+/// Finds the row of the pass that was set aside as it was lent, and marks it as not lent.
 pub struct Learns;
 
 impl Play<(), TurnView> for Learns {

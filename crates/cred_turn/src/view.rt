@@ -21,7 +21,7 @@ pub struct LentPass {
 
 /// The view of a seat.
 pub enum TurnView {
-    /// The roll's: the rows, that of lane 1 first, and the pass that came back and is kept aside
+    /// The roll's: the rows, that of lane 1 first, and the pass that came back and is set aside
     /// until the load after the return.
     Roll(LinkedList<LaneRow>, Option<LentPass>),
     /// A pass's.

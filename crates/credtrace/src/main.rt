@@ -9,7 +9,7 @@ use std::process::ExitCode;
 use std::rt::Runtime;
 use std::{env, io};
 
-/// The words after the program's name. Words that are not all text are no command: they count as
+/// The words after the program's name. Words that are not all UTF-8 are no command: they count as
 /// none.
 fn words<R: Runtime + AllocGlobal>(rt: &R) -> Result<Vec<String>, NoMemory> {
     match env::args(rt) {

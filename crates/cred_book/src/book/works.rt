@@ -34,11 +34,12 @@ use cred_record::{FileInfo, IdList};
 use cred_work::{Asked, Lent, Work};
 
 impl Book {
-    /// Takes a work of the lane back, which is decided, and enters its event, the lane's next one.
+    /// Takes a decided work of the lane back, and enters its event, the lane's next one.
     ///
     /// # Errors
     ///
-    /// Memory ran out: with the work, which is still out. The book is as it was.
+    /// `Unfinished` if an allocation of the state or of the entry fails: it has the work, which is
+    /// still out. The book is as it was.
     pub fn finish(&mut self, cells: &Cells, lane: u32, work: Work) -> Result<Step, Unfinished>
         requires own { self.old.words.id ≡ cells.now }
         requires stands { BookStands self.old }
@@ -103,7 +104,7 @@ impl Book {
 
     /// What is asked for this line, with this file and these root ids: in the memory of the work
     /// that came back last, where one did. A work goes out at every other line, and comes back
-    /// before the next one of its lane does.
+    /// before the next one of its lane goes out.
     ///
     /// # Errors
     ///
@@ -182,12 +183,13 @@ impl Book {
         Some(lent)
     }
 
-    /// Enters the event of a work that is decided and takes back what was lent for it, and answers
+    /// Enters the event of a work that is decided and takes back what was lent for it, and returns
     /// the lane's cursor after it; the book's own stay, and so do the lines whose works are out.
     ///
     /// # Errors
     ///
-    /// Memory ran out: with the work. The book is as it was.
+    /// `Unfinished` if an allocation of the state or of the entry fails: it has the work. The book
+    /// is as it was.
     fn enter_decided(
         &mut self,
         cells: &Cells,
@@ -232,7 +234,7 @@ impl Book {
         }
     }
 
-    /// No work of the lane is out any more.
+    /// Notes that no work of the lane is out any more.
     fn take_home(&mut self, lane: u32)
         requires place { lane < length self.old.outs }
         ensures { self.new ≡ record self.old { outs = set self.old.outs lane None } }

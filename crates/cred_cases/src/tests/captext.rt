@@ -1,5 +1,5 @@
-//! Texts of file capabilities: those that are written are read as they were, and the bytes of a
-//! text are told at which it goes wrong.
+//! Texts of file capabilities: those that are written are read as they were, and of others the byte
+//! is found at which they go wrong.
 use crate::tests::parts::ALL;
 use cred_caps::CapSet;
 use cred_captext::{TextRefusal, print_text, read_text};

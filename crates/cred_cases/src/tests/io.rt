@@ -1,3 +1,4 @@
+//! Sources and sinks: limits of a read, and calls that fail in mid-stream.
 use cred_ids::NoMemory;
 use cred_io::{
     Bytes, Failed, MemorySink, MemorySource, ReadRefusal, Sink, SinkRefusal, Source, StdSink,
@@ -83,7 +84,7 @@ fn three_and_rest(
 #[test]
 fn a_read_that_fails_in_mid_stream_leaves_the_rest(rt: HostRuntime) -> Result<(), Fail> {
     let want = (true, [Err(ReadRefusal::Fault), Ok(true)]);
-    // The second read finds bytes, and the third would tell the end.
+    // The second read finds bytes, and the third would find the end.
     for (failing, rest) in [(2, b"defgh".as_slice()), (3, b"".as_slice())] {
         let read = three_and_rest(rt.alloc(), failing, rest)?;
         assert!(rt; read == want, "read {failing} fails");

@@ -1,5 +1,5 @@
-//! Ends over std's streams, at each kind of error: each is told, whatever kind it is, and each call
-//! makes one call below.
+//! Sources and sinks over std's streams, at each kind of error: each is a fault, whatever its kind,
+//! and each call makes one call below.
 use cred_io::{Failed, Sink, SinkRefusal, Source, StdSink, StdSource};
 use std::io;
 use std::io::{ErrorKind, Read, Write};

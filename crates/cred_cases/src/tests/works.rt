@@ -62,7 +62,7 @@ fn altered(
     decided(alloc, cells, lent)
 }
 
-/// Whether the groups of the credential were told.
+/// Whether the answer is the groups of the credential.
 fn tells_groups(decided: &Lent, cred: &Cred) -> bool {
     match decided {
         Lent::Asking {

@@ -31,7 +31,7 @@ fn call_of(event: &Event) -> Option<&IdCall> {
     }
 }
 
-/// The groups that the answer tells.
+/// The groups in the answer.
 fn groups_of(answer: &Answer) -> Option<&IdList> {
     match answer {
         Answer::Told(Told::Groups(groups)) => Some(groups),

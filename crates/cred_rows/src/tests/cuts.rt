@@ -44,7 +44,7 @@ fn audit<R: AllocGlobal + Threads + Wait + Sync>(
     end
 }
 
-/// What `audit` says where the report ends behind so many of its entries.
+/// What `audit` says where the report ends after so many of its entries.
 fn said_of_cut(alloc: Global, entries: usize) -> Result<String, NoMemory> {
     let next = entries.saturating_add(1);
     Ok(format!(in alloc; "not legal {next}\n")?)
@@ -96,7 +96,7 @@ fn end_at<R: AllocGlobal + Threads + Wait + Sync>(
     Ok(is_legal?.then_some(end))
 }
 
-/// The first write after whose failure it goes otherwise. A write behind the report never comes.
+/// The first write after whose failure it goes otherwise. No write comes after the report.
 fn first_other<R: AllocGlobal + Threads + Wait + Sync>(
     rt: &R,
     script: &str,

@@ -1,5 +1,5 @@
 //! What a script keeps of the files and namespaces that it declares.
-use crate::tests::held::script_of;
+use crate::tests::lines::script_of;
 use cred_ids::NoMemory;
 use cred_script::Script;
 use std::alloc::{AllocError, Global};

@@ -1,4 +1,4 @@
-//! What the program does where its last bytes can't be handed on.
+//! How the program ends where the flush of its output fails.
 use crate::tests::runs::{Given, end_of};
 use cred_ids::NoMemory;
 use cred_io::StdSink;
@@ -11,7 +11,7 @@ use std::thread::Threads;
 
 const SCRIPT: &str = "init t1 p1 0 0 n0\nt1 setresuid 1000 1000 1000\nt1 caps\nt1 ids\n";
 
-/// A writer over a full disk: it takes all, and fails where it is to hand it on.
+/// A writer over a full disk: it takes all, and fails at the flush.
 #[derive(Drop)]
 struct FullDisk;
 

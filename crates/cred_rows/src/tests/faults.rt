@@ -204,7 +204,7 @@ fn ends_so<R: AllocGlobal + Threads + Wait + Sync>(
 }
 
 /// The first write after whose failure it goes otherwise, where the writes reach so far. The last
-/// of these is of a write behind the text.
+/// of these is of a write after the text.
 fn other_write<R: AllocGlobal + Threads + Wait + Sync>(
     rt: &R,
     asked: &Asked,
@@ -225,7 +225,7 @@ fn other_write<R: AllocGlobal + Threads + Wait + Sync>(
     Ok(None)
 }
 
-/// How many reads the program makes of an input: one of each piece, and one that tells the end.
+/// How many reads the program makes of an input: one of each piece, and one that finds the end.
 fn reads_of(asked: &Asked, len: usize, piece: usize) -> u64 {
     let (_, is_read, _, _, _) = asked;
     if *is_read {
@@ -235,7 +235,7 @@ fn reads_of(asked: &Asked, len: usize, piece: usize) -> u64 {
     }
 }
 
-/// The first read after whose failure it goes otherwise. One behind the input changes nothing.
+/// The first read after whose failure it goes otherwise. One after the input changes nothing.
 fn other_read<R: AllocGlobal + Threads + Wait + Sync>(
     rt: &R,
     asked: &Asked,

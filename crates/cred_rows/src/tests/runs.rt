@@ -1,4 +1,4 @@
-//! Runs of the program over ends in memory.
+//! Runs of the program over a source and a sink in memory.
 use cred_ids::NoMemory;
 use cred_io::{MemorySource, Sink};
 use cred_lanes::{Gate, NoGate};

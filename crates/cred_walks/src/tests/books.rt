@@ -16,7 +16,7 @@ use std::test::Fail;
 
 /// What a test does in a book, and what it has found there.
 pub(crate) trait Walk {
-    /// Walks in the book of a script of which nothing has run. No work is out.
+    /// Walks in the book of a script before its first event. No work is out.
     ///
     /// # Errors
     ///

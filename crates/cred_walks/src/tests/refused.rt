@@ -1,5 +1,5 @@
-//! What no script reaches of an event's refusals, or none without lanes, by the book's own call:
-//! behind each of them all is answered as in a book that had none.
+//! Refusals of events that no script reaches, or none without lanes, by the book's own call: after
+//! each of them all is answered as in a book that had none.
 mod calls;
 
 ghost use Rattle.std.specs.Prelude.{◌≡◌, []};
@@ -21,7 +21,7 @@ const SCRIPT: &str = "file a reg 0 0 0600\n\
 /// An event that is refused, whether all slots are live then, and the text of its entry.
 type Row = (Call, bool, &'static str);
 
-/// No task 8 or 9 and no label 8 or 9 is there. What is asked first is told.
+/// No task 8 or 9 and no label 8 or 9 is there. The answer is what is tested first.
 const ROWS: [Row; 15] = [
     (
         Call::Init {
@@ -229,7 +229,8 @@ fn tell_uses(book: &Book, told: &mut Vec<u8>) -> Result<(), Fail> {
     Ok(())
 }
 
-/// What is told of a book that may have had an event more than another, whose entry has a text.
+/// The walk in a book that may have one event more than another, whose entry has a text; and what
+/// it has written.
 #[derive(Drop)]
 struct Behind {
     is_full: bool,
@@ -249,7 +250,7 @@ impl Walk for Behind {
     }
 }
 
-/// The walk behind this event, or behind none, which has told what it has found.
+/// The walk after this event, or after none, with what it has written.
 fn walked(
     alloc: Global,
     is_full: bool,
@@ -265,7 +266,7 @@ fn walked(
     Ok(walk)
 }
 
-/// Whether the event of a row is refused, and all behind it is told as if it had not been there.
+/// Whether the event of a row is refused, and all after it is answered as if it had not been there.
 fn is_alike(alloc: Global, (call, is_full, text): Row) -> Result<bool, Fail> {
     let in_place = if is_full { Some(SWEEP) } else { None };
     let without = walked(alloc, is_full, in_place)?;

@@ -4,7 +4,7 @@ use Rattle.cred_commands.proofs.summing.say.Goals as goal
 
 pub returns : goal.returns
 returns c =
-    let told = c.in_ok-told.ensures in
+    let told = c.in_ok-summary.ensures in
     rw (c.of.ensures.status, c.of.ensures.text) (record {
       done = refl;
       is = record {

@@ -35,7 +35,7 @@ impl Lists {
         Ok(is_new)
     }
 
-    /// No slot is free, and this is told.
+    /// No slot is free, and this is the answer.
     pub(crate) fn is_full(&mut self, answer: &Answer) -> Result<bool, NoMemory> {
         Ok(matches!(answer, Answer::TableFull) && self.claimed()?.is_none())
     }

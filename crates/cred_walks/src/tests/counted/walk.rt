@@ -9,7 +9,7 @@ pub(crate) fn is_rule(answer: &Answer) -> bool {
     matches!(answer, Answer::Eperm | Answer::Einval | Answer::Eacces)
 }
 
-/// The number and the slot of the credential that the answer tells, and nothing else.
+/// The number and the slot of the credential, where the answer has nothing else.
 pub(crate) fn sealed(answer: &Answer) -> Option<(u64, u32)> {
     match answer {
         Answer::Sealed { cred, slot } => Some((*cred, *slot)),

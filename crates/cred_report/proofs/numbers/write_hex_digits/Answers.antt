@@ -2,7 +2,7 @@ use Rattle.std.proofs.Common.{ap, ◌∙◌, false, arith, drop_of_length-le, le
 use Rattle.std.specs.Fmt.{digits_onto}
 use Rattle.std.proofs.DigitsParse.{digits_onto-nil}
 use Rattle.cred_report.proofs.Digits.{fewer, last_of_more, first_digit}
-use Rattle.cred_report.proofs.numbers.write_digits.Goals as goal
+use Rattle.cred_report.proofs.numbers.write_hex_digits.Goals as goal
 
 pub loop-rest-init : goal.loop-rest-init
 loop-rest-init c = record {

@@ -1,7 +1,7 @@
 use Rattle.std.proofs.Common.{◌<◌, refl, sym, subst}
 use Rattle.cred_model.specs.Course.{Leads, left}
 use Rattle.cred_model.proofs.Courses.{leads_on}
-use Rattle.cred_course.proofs.course.Course.took.Goals as goal
+use Rattle.cred_course.proofs.course.Course.advance.Goals as goal
 
 pub returns-clause-leads : goal.returns-clause-leads
 returns-clause-leads c =

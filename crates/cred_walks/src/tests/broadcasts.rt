@@ -40,7 +40,7 @@ const ROWS: [Row; 8] = [
         "6 init t5 p1 0 0 n0 -> busy 5\n",
         [1, 1, 1, 1, 1, 0, 0, 0],
     ),
-    // An open broadcast is told before a task that is there, and before another of its number.
+    // An open broadcast is the answer before a task that exists, and before another of its number.
     (
         6,
         Call::Init {

@@ -1,4 +1,4 @@
-//! The processes that begin with a task, and whether they are dumpable.
+//! Processes that begin with a task, and whether they are dumpable.
 ghost use Rattle.std.specs.Prelude.{◌≡◌, ◌<◌, ◌++◌, ◌∷◌, [], None, find, is_some, length};
 ghost use Rattle.std.specs.Prelude.{true, if◌then◌else◌, OnOk, OnErr};
 ghost use Rattle.cred_ids.specs.Limits.{TASKS};
@@ -9,7 +9,7 @@ use cred_ids::NoMemory;
 use cred_plain::{Task, Tasks};
 use cred_ptrace::Dump;
 
-/// The first thread of a process, which is dumpable or isn't.
+/// Adds the first thread of a process, which is dumpable or isn't.
 ///
 /// # Errors
 ///
@@ -36,7 +36,7 @@ pub fn begin_process(
     Ok(())
 }
 
-/// A first task: it begins its process, which is dumpable then, or is one thread more of it.
+/// Adds a first task: it begins its process, which is dumpable then, or is one thread more of it.
 ///
 /// # Errors
 ///

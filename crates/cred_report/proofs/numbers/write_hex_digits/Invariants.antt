@@ -1,7 +1,7 @@
 use Rattle.std.proofs.Common.{◌≡◌, ◌+◌, ◌^◌, ◌<◌, false, length, drop}
 use Rattle.std.specs.Fmt.{digits_onto}
 use Rattle.cred_report.specs.Numbers.{hexadecimal}
-use Rattle.cred_report.proofs.numbers.write_digits.Given as goal
+use Rattle.cred_report.proofs.numbers.write_hex_digits.Given as goal
 
 abbrev pub invariant-loop-rest : goal.invariant-loop-rest
 invariant-loop-rest l = record {
