@@ -1,7 +1,7 @@
 //! What a task may do by its capabilities, and to another task.
 ghost use Rattle.std.specs.Prelude.{◌≡◌};
 ghost use Rattle.cred_record.specs.Credential.{Credential, capable};
-ghost use Rattle.cred_rules.specs.Access.{owns, may_signal};
+ghost use Rattle.cred_rules.specs.Access.{owns_task, may_signal};
 
 use cred_caps::{Cap, CapSet};
 use cred_ids::{Id, Ids4};
@@ -17,7 +17,7 @@ pub fn capable(cred: &Cred, c: Cap) -> bool
 
 /// Whether the user is the real or the saved user of the target.
 fn owns(user: Id, target: &Ids4) -> bool
-    ensures { result ≡ owns user target.now }
+    ensures { result ≡ owns_task user target.now }
 {
     [target.real, target.saved].contains(&user)
 }

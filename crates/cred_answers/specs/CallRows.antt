@@ -70,7 +70,7 @@ raw_row call TableFull = not (is_invalid call)
 raw_row call (Sealed cred slot) = not (is_invalid call)
 raw_row call answer = false
 
--- The number is none that the change takes.
+-- The number isn't one that the change takes.
 abbrev pub is_wrong : AdjCall → Bool
 is_wrong (Capset perm inh eff) = false
 is_wrong (BoundDrop cap) = is_no_cap cap
@@ -81,8 +81,9 @@ is_wrong (Bits bits) = false
 is_wrong (KeepCaps value) = nat_lt 1 value
 is_wrong (NoNewPrivs value) = not (value == 1)
 
--- Some caller may not make the change. Three empty sets anybody may have; and of a wrong number
--- it is asked first who drops from the bounding set, and last who raises or keeps.
+-- Some caller may not make the change, and gets EPERM. Three empty sets anybody may give to
+-- capset(2). PR_CAPBSET_DROP tests CAP_SETPCAP before the number; PR_CAP_AMBIENT_RAISE and
+-- PR_SET_KEEPCAPS test the number first.
 abbrev pub may_be_refused : AdjCall → Bool
 may_be_refused (Capset perm inh eff) = not ((perm == empty) && (inh == empty) && (eff == empty))
 may_be_refused (BoundDrop cap) = true

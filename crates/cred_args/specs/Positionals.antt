@@ -15,6 +15,7 @@ is_plain (first ∷ rest) = not (first == 45)
 abbrev pub WordsGiven : Type 0
 WordsGiven = List ℕ × Option (List ℕ)
 
+-- one word or two
 abbrev pub split : List (List ℕ) → Option WordsGiven
 split (command ∷ []) = Some (command, None)
 split (command ∷ operand ∷ []) = Some (command, Some operand)
@@ -24,6 +25,6 @@ split words = None
 abbrev pub positionals : List (List ℕ) → Option WordsGiven
 positionals words = if list_all is_plain words then split words else None
 
--- the words, wherever they lie
+-- the words as values, where they are borrowed
 abbrev pub words_seen : Positionals → WordsGiven
 words_seen given = (given.command.now, option_map (λ word. word.now) given.operand)

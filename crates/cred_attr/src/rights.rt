@@ -1,7 +1,7 @@
 //! What a task may change by its ids.
 ghost use Rattle.std.specs.Prelude.{◌≡◌};
 ghost use Rattle.cred_rules.specs.Access.{in_group};
-ghost use Rattle.cred_rules.specs.Files.{owns};
+ghost use Rattle.cred_rules.specs.Files.{owns_file};
 
 use cred_access::has_group;
 use cred_ids::Id;
@@ -9,7 +9,7 @@ use cred_record::{Cred, FileInfo};
 
 /// Whether the task is the file's owner, as it reaches files (setfsuid(2)).
 pub fn owns(cred: &Cred, file: &FileInfo) -> bool
-    ensures { result ≡ owns cred.now file.now }
+    ensures { result ≡ owns_file cred.now file.now }
 {
     file.owner == cred.uid.fs
 }

@@ -12,7 +12,7 @@ IsOnly script journal =
     (other : List Entry) → SoFar script other → text script other ≡ text script journal
     → other ≡ journal
 
--- So it is of every journal so far of a script that has no more lines than one may have.
+-- This holds of every journal so far of a script that has no more lines than one may have.
 abbrev pub OneJournal : Type 0
 OneJournal =
     (script : Script) (journal : List Entry)

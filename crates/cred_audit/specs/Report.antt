@@ -19,7 +19,7 @@ pub record IsOneJournal (script : Script) (bytes : List ℕ) : Type 0 where
   pub report : IsReport script bytes
   pub only : IsOnly script report.journal
 
--- The bytes begin with the text of so many entries, which are the script's so far.
+-- The bytes begin with the text of `count` entries, which are the script's so far.
 pub record Begins (script : Script) (bytes : List ℕ) (count : ℕ) : Type 0 where
   pub journal : List Entry
   pub so_far : SoFar script journal

@@ -29,7 +29,7 @@ use Rattle.cred_state.proofs.Lines.{IsLines, may_need_tokens, names_own, same_ev
 use Rattle.cred_state.proofs.Stays.{base_sealed, held_sealed}
 use Rattle.cred_book.specs.Book.{Recorded}
 use Rattle.cred_book.specs.Cursor.{BookStands}
-use Rattle.cred_book.specs.Works.{IsLanes, IsOutOf}
+use Rattle.cred_book.specs.Works.{IsOfLane, IsOutOf}
 use Rattle.cred_book.proofs.Apart.{IsOfPlace, due_from, names_at, names_differ, never_setup, next_made}
 use Rattle.cred_book.proofs.Joined.{has_passes}
 use Rattle.cred_book.proofs.Lent.{HasLent, lent_by, lent_under, under, work_next}
@@ -130,7 +130,7 @@ made_by script number event o line at made =
 abbrev due_of_line : ℕ → Event → Due
 due_of_line line event = record { line = line; event = event }
 
-pub event_is : (book : Recorded) (lane : ℕ) (work : Work) → BookStands book → IsLanes book lane work → (out : IsOutOf book lane work.line)
+pub event_is : (book : Recorded) (lane : ℕ) (work : Work) → BookStands book → IsOfLane book lane work → (out : IsOutOf book lane work.line)
     → ((e : Loan) → Has (loans_of work.lent) e → Has book.words.out e) → work_event work.lent ≡ out.event
 event_is book lane work stands is out has = by (cases_eq at.lane lane)
   where

@@ -34,7 +34,7 @@ use Rattle.cred_state.specs.TokensOut.{IsChain, IsNs, loans_of, needs_decision}
 use Rattle.cred_book.specs.Book.{Recorded, answer_of, infos_in, out_of, with_event}
 use Rattle.cred_book.specs.Counts.{Counts, HasEntered, count_of}
 use Rattle.cred_book.specs.Cursor.{Finishes, Makes, BookStands, steps_left, moved_on}
-use Rattle.cred_book.specs.Works.{IsChainFor, IsEntered, IsLanes, IsOutOf, MayMake, lane_tokens, with_work}
+use Rattle.cred_book.specs.Works.{IsChainFor, IsEntered, IsOfLane, IsOutOf, MayMake, lane_tokens, with_work}
 use Rattle.cred_book.specs.declared.step.Step.TheVariants as step
 use Rattle.cred_book.proofs.Apart.{IsNext}
 use Rattle.cred_book.proofs.Cursors.{Moves, due_left, lane_has_out, makes_more, moves}
@@ -123,7 +123,7 @@ pub record HandsOut (before after : Recorded) (lane : ℕ) (work : Work) : Type 
 
 makes_work : (before after : Recorded) (lane : ℕ) (comes : Option logged.Entry) (made : logged.Entry) (work : Work) → comes ≡ Some made
     → needs_tokens (replay before.script before.journal) made.event ≡ true → work.line ≡ made.line → its_event work.lent ≡ made.event → IsUndecided work
-    → IsLanes after lane work → after ≡ with_work before lane work → Makes before after lane comes (step.Work work)
+    → IsOfLane after lane work → after ≡ with_work before lane work → Makes before after lane comes (step.Work work)
 makes_work before after lane comes made work is waits line event undecided lanes same = rw is (waits, line, event, undecided, lanes, same)
 
 pub hands_out : (book : Recorded) (lane : ℕ) (course : Course) (work : Work) → BookStands book → out_of book lane ≡ None → IsDueWork book lane course work
@@ -198,7 +198,7 @@ enters_more {book = book} {lane = lane} {course = course} {event = event} {to = 
 -- ---- back
 
 -- the lane's cursor stands on the work's line
-pub work_course : (book : Recorded) (lane : ℕ) (work : Work) → BookStands book → IsLanes book lane work
+pub work_course : (book : Recorded) (lane : ℕ) (work : Work) → BookStands book → IsOfLane book lane work
     → (out : IsOutOf book lane work.line) × MakesNext book.script book.cursors lane (record { line = work.line; event = out.event })
 work_course book lane work stands is =
     let out = work_of book lane work.line stands is.out in (
@@ -207,7 +207,8 @@ work_course book lane work stands is =
           (work_next book lane work.line out),
     )
 
-pub course_is : (book : Recorded) (lane : ℕ) (work : Work) (course : Course) → BookStands book → IsLanes book lane work → due_of book.cursors lane ≡ Some course
+pub course_is : (book : Recorded) (lane : ℕ) (work : Work) (course : Course) → BookStands book → IsOfLane book lane work
+    → due_of book.cursors lane ≡ Some course
     → course.line ≡ work.line
 course_is book lane work course stands is due =
     let at = (work_course book lane work stands is).1 in
@@ -240,7 +241,7 @@ abbrev pub at_home : Recorded → ℕ → Recorded
 at_home book lane = record book { outs = set book.outs lane None }
 
 pub comes_back : (book entered : Recorded) (lane : ℕ) (course : Course) (to : Option Course) (work : Work) → BookStands book
-    → AreOut (replay book.script book.journal) book.words.out → IsLanes book lane work → due_of book.cursors lane ≡ Some course
+    → AreOut (replay book.script book.journal) book.words.out → IsOfLane book lane work → due_of book.cursors lane ≡ Some course
     → IsEntered book entered work
     → IfSome (line_at book.script course.line)
     (λ line. MovesOnTo book.script lane (model.after line.content course (answer_of book course.line (its_event work.lent))) to)

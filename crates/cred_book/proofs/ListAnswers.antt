@@ -33,7 +33,7 @@ use Rattle.cred_model.specs.Named.{change_files}
 use Rattle.cred_model.specs.Answers.{checked}
 use Rattle.cred_model.specs.Change.{Made, made_by_rule, made_by_exec, made_by_execve, by_change, by_rule}
 use Rattle.cred_model.specs.Ends.{is_thread_of, ended}
-use Rattle.cred_model.specs.Casts.{others_of, with_broadcast, waits_no_more}
+use Rattle.cred_model.specs.Broadcasts.{others_of, with_broadcast, waits_no_more}
 use Rattle.cred_model.specs.Like.{IsLike, IsOutcomeLike}
 use Rattle.cred_model.specs.Moves.{table_full, first_task, created, replaced, preparing, given_up, committed}
 use Rattle.cred_model.specs.Step.{aborted, by_file, broadcasts_after, commit_answer, committed_by, ends_with, follow, for_access, for_task, outcome}

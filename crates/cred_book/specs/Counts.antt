@@ -81,9 +81,9 @@ pub record IsOutNow (before after : Recorded) (lane : ℕ) (line : Option ℕ) :
   pub own : out_of after lane ≡ line
   pub others : (other : ℕ) → other ≢ lane → out_of after other ≡ out_of before other
 
--- The lane had a line left. It has one entry more, of which so many are works', and one ended line
--- more at most. Of all other lanes the numbers are as they were. A setup that has ended stays so.
--- No work of the lane is out now, and of the others those that were.
+-- The lane had a line left. It has one entry more, a work's where `works` is 1 and not where it is
+-- 0, and one ended line more at most. Of all other lanes the numbers are as they were. A setup that
+-- has ended stays so. No work of the lane is out now, and of the others those that were.
 pub record HasEntered (before after : Recorded) (lane works : ℕ) : Type 0 where
   pub left : ended_of before.script before.journal lane < lines_in before.script lane
   pub own : entered_of after.script after.journal lane

@@ -1,4 +1,4 @@
--- A book's cursors, and the steps that they are moved on by.
+-- A book's cursors, and the steps that move them on.
 use Rattle.std.specs.Prelude.{◌≡◌, ◌≤◌, ◌==◌, ℕ, ◌+◌, [], ◌∷◌, ◌++◌, length, set, Some, None}
 use Rattle.std.specs.Prelude.{Bool, true, false, not, slice_index_or, IfSome}
 use Rattle.std.specs.declared.option.Option.{Option}
@@ -20,7 +20,7 @@ use Rattle.cred_work.specs.Work.{Work}
 use Rattle.cred_work.specs.DecidedWorks.{IsUndecided}
 use Rattle.cred_book.specs.Book.{Recorded, out_of}
 use Rattle.cred_book.specs.Counts.{AreEnded, count_of}
-use Rattle.cred_book.specs.Works.{AreNamedApart, IsBack, IsLanes, IsOutOf, tokens_out}
+use Rattle.cred_book.specs.Works.{AreNamedApart, IsBack, IsOfLane, IsOutOf, tokens_out}
 use Rattle.cred_book.specs.Works.{with_work}
 use Rattle.cred_book.specs.declared.step.Step.{Step}
 use Rattle.cred_book.specs.declared.step.Step.TheVariants.{More, Ended}
@@ -76,7 +76,7 @@ Makes before after lane (Some entry) (step.Work work) =
     × (work.line ≡ entry.line)
     × (work_event work.lent ≡ entry.event)
     × IsUndecided work
-    × IsLanes after lane work
+    × IsOfLane after lane work
     × (after ≡ with_work before lane work)
 Makes before after lane None Ended = after ≡ before
 Makes before after lane next step = ⊥

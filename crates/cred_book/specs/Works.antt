@@ -60,8 +60,9 @@ MayMake script number event =
     IfSome (line_at script number) (λ line.
     (stage : Stage) × (event_in number line.content stage ≡ Some event))
 
--- A work of some line of the script, whose files stand so: its tokens are of these cells, its line
--- may make its event, and its file and its root ids are those that the event is decided by.
+-- A work of some line of the script, where these are its files as they stand: its tokens are of
+-- these cells, its line may make its event, and its file and its root ids are those that the event
+-- is decided by.
 pub record IsWorkOf (script : Script) (infos : List File) (cells : TableId) (work : Work) : Type 0
   where
     pub own : AreOf cells work.lent
@@ -71,7 +72,7 @@ pub record IsWorkOf (script : Script) (infos : List File) (cells : TableId) (wor
 
 -- The work is the lane's: it is one of the book's script and cells, its file is as it stands now,
 -- and its line is the one whose work is out.
-pub record IsLanes (book : Recorded) (lane : ℕ) (work : Work) : Type 0 where
+pub record IsOfLane (book : Recorded) (lane : ℕ) (work : Work) : Type 0 where
   pub of : IsWorkOf book.script (infos_in book) book.words.id work
   pub out : out_of book lane ≡ Some work.line
 

@@ -1,4 +1,4 @@
--- A law of the record.
+-- A law of the record of capset(2): what bytes spell is one record.
 use Rattle.std.specs.Prelude.{◌≡◌, ℕ, List}
 use Rattle.cred_capdata.specs.declared.data.CapData.{CapData}
 use Rattle.cred_capdata.specs.Record.{SpellsData}

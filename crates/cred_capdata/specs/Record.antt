@@ -1,6 +1,6 @@
 -- The record that capget(2) and capset(2) take: its bytes, and what they spell (linux/capability.h,
--- `struct __user_cap_header_struct` and `struct __user_cap_data_struct`). What stands between the
--- two is a relation, which says what each bit means: no way to read bytes, and none to write them.
+-- `struct __user_cap_header_struct` and `struct __user_cap_data_struct`). `SpellsData` relates the
+-- two: it says what each bit means, and not how bytes are read or written.
 use Rattle.std.specs.Prelude.{◌≡◌, ℕ, ◌+◌, ◌<◌, ◌^◌, ◌==◌, ◌&&◌, ◌||◌, not, Bool, false}
 use Rattle.std.specs.Prelude.{IsTrue, List, Option, Some, None, length, if◌then◌else◌, nat_lt}
 use Rattle.cred_caps.specs.Numbers.{LAST}
@@ -24,6 +24,7 @@ WORD_2 = 0x20071026
 abbrev pub WORD_3 : ℕ
 WORD_3 = 0x20080522
 
+-- 1, 2 or 3
 abbrev pub is_data_version : ℕ → Bool
 is_data_version version = (version == 1) || (version == 2) || (version == 3)
 
@@ -31,6 +32,7 @@ is_data_version version = (version == 1) || (version == 2) || (version == 3)
 abbrev pub word_of_version : ℕ → ℕ
 word_of_version version = if version == 1 then WORD_1 else if version == 2 then WORD_2 else WORD_3
 
+-- the word names a version
 abbrev pub is_version_word : ℕ → Bool
 is_version_word word = (word == WORD_1) || (word == WORD_2) || (word == WORD_3)
 
@@ -91,7 +93,7 @@ data_said bytes version = record {
   eff = set_in (eff_word_0 bytes) (high_in version (eff_word_1 bytes));
 }
 
--- so many bytes, with the word of this version
+-- the bytes are as many as this version has, with its word
 abbrev pub has_version_form : List ℕ → ℕ → Bool
 has_version_form bytes version =
     (length bytes == size_of version) && (version_word bytes == word_of_version version)
@@ -106,7 +108,7 @@ data_of bytes =
     else None
 
 -- every bit that spells nothing is zero: those above the last capability. Version 1 has no high
--- words: what stands there, behind its bytes, is 0
+-- words: what stands there, after its bytes, is 0
 pub record IsCanonicalData (bytes : List ℕ) : Type 0 where
   pub eff : (i : ℕ) → LAST < 32 + i → i < 32 → has_bit (eff_word_1 bytes) i ≡ false
   pub perm : (i : ℕ) → LAST < 32 + i → i < 32 → has_bit (perm_word_1 bytes) i ≡ false
@@ -121,8 +123,8 @@ pub record HasBytes (d : CapData) : Type 0 where
 
 -- ---- bytes that spell nothing
 
--- why bytes that spell no record do not: they are too few to have a header; else their first word
--- is no version; else they are not as many as that version has
+-- why these bytes, which spell no record, don't: they are too few to have a header; else their
+-- first word is no version; else they are not as many as that version has
 abbrev pub data_refusal_of : List ℕ → DataRefusal
 data_refusal_of bytes =
     if nat_lt (length bytes) 8 then BadLength (length bytes)

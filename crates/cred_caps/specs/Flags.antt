@@ -1,5 +1,5 @@
--- What makes the numbers that stand for securebits flags and locks: setting a flag sets that flag
--- and nothing else.
+-- Why numbers may stand for securebits flags and locks: setting a flag sets that flag and nothing
+-- else.
 use Rattle.std.specs.Prelude.{◌≡◌, ◌≢◌, ◌<◌, ℕ, Bool}
 use Rattle.std.specs.Int.{bit_at}
 use Rattle.cred_caps.specs.declared.secure.Flag.{Flag}

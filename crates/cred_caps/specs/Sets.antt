@@ -1,5 +1,5 @@
--- What makes the numbers that stand for sets of capabilities sets: a set is its members, and each
--- operation does to them what its name says.
+-- Why numbers may stand for sets of capabilities: a set is its members, and each operation does to
+-- them what its name says.
 use Rattle.std.specs.Prelude.{◌≡◌, ◌==◌, ◌↔◌, ◌&&◌, ◌||◌, not, ℕ, true, false}
 use Rattle.cred_caps.specs.Caps.{Caps, IsCap, IsCaps, empty, full, has, union, meet, less, with}
 use Rattle.cred_caps.specs.Caps.{without, IsWithin}

@@ -13,7 +13,7 @@ use Rattle.cred_captext.specs.declared.action.Letter.TheVariants as letter
 use Rattle.cred_captext.specs.declared.sets.Sets.{Sets}
 use Rattle.cred_captext.specs.declared.bytes.TextPlace.TheVariants.{Start, Name, Sign, Letters}
 use Rattle.cred_captext.specs.declared.bytes.Reader.{Reader}
-use Rattle.cred_captext.specs.Names.{small_name}
+use Rattle.cred_captext.specs.Names.{lowercase_name}
 use Rattle.cred_captext.specs.Grammar.{Listed, Everything, Unsaid, Named, Action, Clause, Clauses}
 use Rattle.cred_captext.specs.Grammar.{IsListed, IsAction, AreActions, IsClause, AreClauses}
 use Rattle.cred_captext.specs.Grammar.{MayBeginClause, operator_byte, letter_byte, listed_text}
@@ -106,16 +106,16 @@ acts-said a actions bytes f are behind s list =
 
 -- a byte more of a name
 longer-said : (n b : ℕ) (w v bytes : List ℕ) (s : Sets) (list : Caps) → IsCap n
-    → w ++ b ∷ v ≡ small_name n
+    → w ++ b ∷ v ≡ lowercase_name n
     → sets_said (reader s list (Name w)) (b ∷ bytes) ≡ sets_said (reader s list (Name (w ++ b ∷ []))) bytes
 longer-said n b w v bytes s list cap is =
-    let prefix : (w ++ b ∷ []) ++ v ≡ small_name n = append_assoc w (b ∷ []) v ∙ is in
+    let prefix : (w ++ b ∷ []) ++ v ≡ lowercase_name n = append_assoc w (b ∷ []) v ∙ is in
     ap (λ o. saying (within_name s list w b o) bytes) (unfinished n b w v cap is)
     ∙ ap (λ t. saying (cond t (Some (reader s list (Name (w ++ b ∷ [])))) None) bytes)
     (begins n (w ++ b ∷ []) v cap prefix)
 
-pub name-said : (n : ℕ) (v w bytes : List ℕ) (s : Sets) (list : Caps) → IsCap n → w ++ v ≡ small_name n
-    → sets_said (reader s list (Name w)) (v ++ bytes) ≡ sets_said (reader s list (Name (small_name n))) bytes
+pub name-said : (n : ℕ) (v w bytes : List ℕ) (s : Sets) (list : Caps) → IsCap n → w ++ v ≡ lowercase_name n
+    → sets_said (reader s list (Name w)) (v ++ bytes) ≡ sets_said (reader s list (Name (lowercase_name n))) bytes
 name-said n [] w bytes s list cap is =
     ap (λ x. sets_said (reader s list (Name x)) bytes) (sym (append-nil w) ∙ is)
 name-said n (b ∷ v) w bytes s list cap is =
@@ -124,41 +124,41 @@ name-said n (b ∷ v) w bytes s list cap is =
 
 -- a comma behind a name
 comma-said : (n : ℕ) (bytes : List ℕ) (s : Sets) (list : Caps) → IsCap n
-    → sets_said (reader s list (Name (small_name n))) (44 ∷ bytes)
+    → sets_said (reader s list (Name (lowercase_name n))) (44 ∷ bytes)
     ≡ sets_said (reader s (with list n) (Name [])) bytes
 comma-said n bytes s list cap =
-    ap (λ o. saying (within_name s list (small_name n) 44 o) bytes) (known.named n cap)
+    ap (λ o. saying (within_name s list (lowercase_name n) 44 o) bytes) (known.named n cap)
 
 -- an operator behind a name
 pub name_operator-said : (n : ℕ) (op : Operator) (bytes : List ℕ) (s : Sets) (list : Caps) → IsCap n
-    → sets_said (reader s list (Name (small_name n))) (operator_byte op ∷ bytes)
+    → sets_said (reader s list (Name (lowercase_name n))) (operator_byte op ∷ bytes)
     ≡ saying (operated s (with list n) (operator_byte op)) bytes
 name_operator-said n Reset bytes s list cap =
-    ap (λ o. saying (within_name s list (small_name n) 61 o) bytes) (known.named n cap)
+    ap (λ o. saying (within_name s list (lowercase_name n) 61 o) bytes) (known.named n cap)
 name_operator-said n Raise bytes s list cap =
-    ap (λ o. saying (within_name s list (small_name n) 43 o) bytes) (known.named n cap)
+    ap (λ o. saying (within_name s list (lowercase_name n) 43 o) bytes) (known.named n cap)
 name_operator-said n Lower bytes s list cap =
-    ap (λ o. saying (within_name s list (small_name n) 45 o) bytes) (known.named n cap)
+    ap (λ o. saying (within_name s list (lowercase_name n) 45 o) bytes) (known.named n cap)
 
 -- names behind a name, and then an operator
 names-said : (ms : List ℕ) (n : ℕ) (op : Operator) (bytes : List ℕ) (s : Sets) (list : Caps)
     → AllByRecursion IsCap (n ∷ ms)
-    → sets_said (reader s list (Name (small_name n)))
-    (flat_map (λ m. 44 ∷ small_name m) ms ++ operator_byte op ∷ bytes)
+    → sets_said (reader s list (Name (lowercase_name n)))
+    (flat_map (λ m. 44 ∷ lowercase_name m) ms ++ operator_byte op ∷ bytes)
     ≡ saying (operated s (fold with list (n ∷ ms)) (operator_byte op)) bytes
 names-said [] n op bytes s list are = name_operator-said n op bytes s list are.0
 names-said (m ∷ ms) n op bytes s list are =
-    let rest = flat_map (λ k. 44 ∷ small_name k) ms ++ operator_byte op ∷ bytes in
-    ap (sets_said (reader s list (Name (small_name n))))
-    (append_assoc (44 ∷ small_name m) (flat_map (λ k. 44 ∷ small_name k) ms) (operator_byte op ∷ bytes))
-    ∙ comma-said n (small_name m ++ rest) s list are.0
-    ∙ name-said m (small_name m) [] rest s (with list n) are.1.0 refl
+    let rest = flat_map (λ k. 44 ∷ lowercase_name k) ms ++ operator_byte op ∷ bytes in
+    ap (sets_said (reader s list (Name (lowercase_name n))))
+    (append_assoc (44 ∷ lowercase_name m) (flat_map (λ k. 44 ∷ lowercase_name k) ms) (operator_byte op ∷ bytes))
+    ∙ comma-said n (lowercase_name m ++ rest) s list are.0
+    ∙ name-said m (lowercase_name m) [] rest s (with list n) are.1.0 refl
     ∙ names-said ms m op bytes s (with list n) are.1
 
 -- the first name of a clause
 first-said : (n : ℕ) (bytes : List ℕ) (s : Sets) (list : Caps) → IsCap n
-    → sets_said (reader s list Start) (small_name n ++ bytes)
-    ≡ sets_said (reader s empty (Name (small_name n))) bytes
+    → sets_said (reader s list Start) (lowercase_name n ++ bytes)
+    ≡ sets_said (reader s empty (Name (lowercase_name n))) bytes
 first-said n bytes s list cap =
     let c = first-byte n cap in
     let again : sets_said (reader s list Start) (99 ∷ (c.rest ++ bytes))
@@ -181,8 +181,8 @@ listed-said Unsaid Reset bytes s list is may = refl
 listed-said Unsaid Raise bytes s list is may = cc
 listed-said Unsaid Lower bytes s list is may = cc
 listed-said (Named n ms) op bytes s list is may =
-    let rest = flat_map (λ m. 44 ∷ small_name m) ms in
-    ap (sets_said (reader s list Start)) (append_assoc (small_name n) rest (operator_byte op ∷ bytes))
+    let rest = flat_map (λ m. 44 ∷ lowercase_name m) ms in
+    ap (sets_said (reader s list Start)) (append_assoc (lowercase_name n) rest (operator_byte op ∷ bytes))
     ∙ first-said n (rest ++ operator_byte op ∷ bytes) s list is.0
     ∙ names-said ms n op bytes s empty is
 

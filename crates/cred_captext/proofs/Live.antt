@@ -17,7 +17,7 @@ use Rattle.cred_captext.specs.declared.bytes.TextPlace.{TextPlace}
 use Rattle.cred_captext.specs.declared.bytes.TextPlace.TheVariants.{Start, A, Al, All, Name, Sign}
 use Rattle.cred_captext.specs.declared.bytes.TextPlace.TheVariants.{Letters}
 use Rattle.cred_captext.specs.declared.bytes.Reader.{Reader}
-use Rattle.cred_captext.specs.Names.{small_name, cap_of_small_name, begins_name}
+use Rattle.cred_captext.specs.Names.{lowercase_name, cap_of_lowercase_name, begins_name}
 use Rattle.cred_captext.specs.Grammar.{Clauses}
 use Rattle.cred_captext.specs.Meaning.{none, after_operator, after_letter, sets_of_clauses}
 use Rattle.cred_captext.specs.Machine.{reader, place_after, operated, operator_of, letter_of, lettered}
@@ -34,7 +34,7 @@ use Rattle.cred_captext.proofs.Tails.{text-read}
 
 -- each name begins with no bytes
 no-bytes : Fronts []
-no-bytes = record { number = 0; rest = small_name 0; cap = omega arith; name = refl }
+no-bytes = record { number = 0; rest = lowercase_name 0; cap = omega arith; name = refl }
 
 abbrev IsLive : TextPlace → Type 0
 IsLive Start = Unit {0}
@@ -103,7 +103,7 @@ step-live s list Start b r is =
 step-live s list A b r is = word-live s Al b r is tt
 step-live s list Al b r is = word-live s All b r is tt
 step-live s list All b r is = operated-live s full b r is
-step-live s list (Name w) b r is = named-live s list w b (cap_of_small_name w) r is
+step-live s list (Name w) b r is = named-live s list w b (cap_of_lowercase_name w) r is
 step-live s list (Sign op) b r is = lettered-live s list op b r is
 step-live s list (Letters op) b r is =
     elim (chosen (b == 32) _ _ _ is) [

@@ -10,7 +10,7 @@ use Rattle.std.proofs.lemmas.List.FromFn.{map-range_with_len_more}
 use Rattle.std.proofs.lemmas.Nat.Bits.{bit_at_above}
 use Rattle.cred_caps.specs.Caps.{Caps, IsCap, IsCaps, empty, has, with}
 use Rattle.cred_caps.proofs.SetLaws.{has-with, has-empty, same_caps}
-use Rattle.cred_captext.specs.Names.{small_name}
+use Rattle.cred_captext.specs.Names.{lowercase_name}
 use Rattle.cred_captext.specs.Printed.{cap_numbers_below, cap_numbers}
 use Rattle.cred_captext.specs.Pieces.{comma_names, comma_text, are_some}
 
@@ -165,9 +165,9 @@ members-set set caps =
 -- ---- how they are written
 
 pub joined-more : (ns : List ℕ) (n : ℕ)
-    → comma_names (ns ++ n ∷ []) ≡ comma_names ns ++ (comma_text (are_some ns) ++ small_name n)
-joined-more [] n = append-nil (small_name n)
-joined-more (m ∷ ns) n = sym (flat_map_more (λ k. 44 ∷ small_name k) (small_name m) ns n)
+    → comma_names (ns ++ n ∷ []) ≡ comma_names ns ++ (comma_text (are_some ns) ++ lowercase_name n)
+joined-more [] n = append-nil (lowercase_name n)
+joined-more (m ∷ ns) n = sym (flat_map_more (λ k. 44 ∷ lowercase_name k) (lowercase_name m) ns n)
 
 some-more : (ns : List ℕ) (n : ℕ) → are_some (ns ++ n ∷ []) ≡ true
 some-more [] n = refl
@@ -186,16 +186,16 @@ written-none before set = record {
 
 pub written-with : (before after next : List ℕ) (comma : Bool) (n cap : ℕ) (set : Caps)
     → AreWritten before after comma n set → cap ≡ n → has set cap ≡ true
-    → next ≡ after ++ (comma_text comma ++ small_name cap) → AreWritten before next true (n + 1) set
+    → next ≡ after ++ (comma_text comma ++ lowercase_name cap) → AreWritten before next true (n + 1) set
 written-with before after next comma n cap set are same member is =
     let holds : has set n ≡ true = sym (ap (has set) same) ∙ member in
     record {
       text = is
-          ∙ ap (λ k. after ++ (comma_text comma ++ small_name k)) same
-          ∙ ap (λ t. after ++ (comma_text t ++ small_name n)) are.comma
-          ∙ ap (λ x. x ++ (comma_text (are_some (cap_numbers_below n set)) ++ small_name n)) are.text
+          ∙ ap (λ k. after ++ (comma_text comma ++ lowercase_name k)) same
+          ∙ ap (λ t. after ++ (comma_text t ++ lowercase_name n)) are.comma
+          ∙ ap (λ x. x ++ (comma_text (are_some (cap_numbers_below n set)) ++ lowercase_name n)) are.text
           ∙ append_assoc before (comma_names (cap_numbers_below n set))
-          (comma_text (are_some (cap_numbers_below n set)) ++ small_name n)
+          (comma_text (are_some (cap_numbers_below n set)) ++ lowercase_name n)
           ∙ ap (λ x. before ++ x) (sym (joined-more (cap_numbers_below n set) n))
           ∙ ap (λ ns. before ++ comma_names ns) (sym (members-with n set holds));
       comma = sym (ap are_some (members-with n set holds) ∙ some-more (cap_numbers_below n set) n);

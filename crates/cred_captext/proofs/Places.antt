@@ -10,7 +10,7 @@ use Rattle.cred_captext.specs.declared.bytes.TextPlace.{TextPlace}
 use Rattle.cred_captext.specs.declared.bytes.TextPlace.TheVariants.{Start, A, Al, All, Name, Sign}
 use Rattle.cred_captext.specs.declared.bytes.TextPlace.TheVariants.{Letters}
 use Rattle.cred_captext.specs.declared.bytes.Reader.{Reader}
-use Rattle.cred_captext.specs.Names.{small_name}
+use Rattle.cred_captext.specs.Names.{lowercase_name}
 use Rattle.cred_captext.specs.Grammar.{Action, Clause}
 use Rattle.cred_captext.specs.Grammar.{AreActions, AreClauses}
 use Rattle.cred_captext.specs.Grammar.{letter_byte}
@@ -53,8 +53,8 @@ pub record Names (s : Sets) (list : Caps) (w bytes : List ℕ) (x : Sets) : Type
   pub others : List ℕ
   pub rest : List ℕ
   pub caps : AllByRecursion IsCap (number ∷ others)
-  pub name : w ++ v ≡ small_name number
-  pub text : bytes ≡ v ++ (flat_map (λ m. 44 ∷ small_name m) others ++ rest)
+  pub name : w ++ v ≡ lowercase_name number
+  pub text : bytes ≡ v ++ (flat_map (λ m. 44 ∷ lowercase_name m) others ++ rest)
   pub acts : Acts s (fold with list (number ∷ others)) rest x
 
 -- behind letters of the word `all`, further ones, and what may stand behind a list

@@ -12,7 +12,7 @@ use Rattle.std.proofs.lemmas.List.Folds.{list_any_at, list_any_none}
 use Rattle.std.proofs.lemmas.Option.{slice_get_within, get_or_from_slice_get, slice_get-get_or}
 use Rattle.std.proofs.lemmas.Slice.Eq.{bytes_eq-Decides}
 use Rattle.cred_caps.specs.Caps.{IsCap}
-use Rattle.cred_captext.specs.Names.{small_names, small_name, cap_of_small_name, begins_with, begins_name}
+use Rattle.cred_captext.specs.Names.{lowercase_names, lowercase_name, cap_of_lowercase_name, begins_with, begins_name}
 use Rattle.cred_captext.proofs.NameLemmas.{names-count, in-table, named, unfinished}
 
 -- ---- two tests that hold together
@@ -39,26 +39,26 @@ shares one other capitals others k r one_is other_is is =
 
 -- ---- whole names
 
-pub whole : (n k : ℕ) (w capitals : List ℕ) → IsCap n → take k (small_name n) ≡ w
-    → map to_ascii_lowercase capitals ≡ small_name n → k ≡ length capitals → Some n ≡ cap_of_small_name w
+pub whole : (n k : ℕ) (w capitals : List ℕ) → IsCap n → take k (lowercase_name n) ≡ w
+    → map to_ascii_lowercase capitals ≡ lowercase_name n → k ≡ length capitals → Some n ≡ cap_of_lowercase_name w
 whole n k w capitals cap prefix is end =
-    let size : length (small_name n) ≡ length capitals = ap length (sym is)
+    let size : length (lowercase_name n) ≡ length capitals = ap length (sym is)
     ∙ length-map capitals to_ascii_lowercase in
-    let all : w ≡ small_name n = sym prefix ∙ take_all k (small_name n) (omega arith) in
-    sym (ap cap_of_small_name all ∙ named n cap)
+    let all : w ≡ lowercase_name n = sym prefix ∙ take_all k (lowercase_name n) (omega arith) in
+    sym (ap cap_of_lowercase_name all ∙ named n cap)
 
-pub part : (n k : ℕ) (w capitals : List ℕ) → IsCap n → take k (small_name n) ≡ w
-    → map to_ascii_lowercase capitals ≡ small_name n → k ≤ length (small_name n)
-    → (k ≡ length capitals → ⊥) → None ≡ cap_of_small_name w
+pub part : (n k : ℕ) (w capitals : List ℕ) → IsCap n → take k (lowercase_name n) ≡ w
+    → map to_ascii_lowercase capitals ≡ lowercase_name n → k ≤ length (lowercase_name n)
+    → (k ≡ length capitals → ⊥) → None ≡ cap_of_lowercase_name w
 part n k w capitals cap prefix is within other =
-    let size : length (small_name n) ≡ length capitals = ap length (sym is)
+    let size : length (lowercase_name n) ≡ length capitals = ap length (sym is)
     ∙ length-map capitals to_ascii_lowercase in
-    let lt : k < length (small_name n) = omega arith in
-    let parts : w ++ get_or (small_name n) k 0 ∷ drop (k + 1) (small_name n) ≡ small_name n =
-    ap (λ x. x ++ get_or (small_name n) k 0 ∷ drop (k + 1) (small_name n)) (sym prefix)
-    ∙ ap (λ x. take k (small_name n) ++ x) (sym (drop_more (small_name n) k 0 lt))
-    ∙ take-append-drop k (small_name n) in
-    sym (unfinished n (get_or (small_name n) k 0) w (drop (k + 1) (small_name n)) cap parts)
+    let lt : k < length (lowercase_name n) = omega arith in
+    let parts : w ++ get_or (lowercase_name n) k 0 ∷ drop (k + 1) (lowercase_name n) ≡ lowercase_name n =
+    ap (λ x. x ++ get_or (lowercase_name n) k 0 ∷ drop (k + 1) (lowercase_name n)) (sym prefix)
+    ∙ ap (λ x. take k (lowercase_name n) ++ x) (sym (drop_more (lowercase_name n) k 0 lt))
+    ∙ take-append-drop k (lowercase_name n) in
+    sym (unfinished n (get_or (lowercase_name n) k 0) w (drop (k + 1) (lowercase_name n)) cap parts)
 
 -- ---- a byte more
 
@@ -103,35 +103,35 @@ goes-off name w b k r size is off =
 
 -- ---- some name goes on so
 
-pub prefix-size : (n k : ℕ) (w : List ℕ) → take k (small_name n) ≡ w → k ≤ length (small_name n)
+pub prefix-size : (n k : ℕ) (w : List ℕ) → take k (lowercase_name n) ≡ w → k ≤ length (lowercase_name n)
     → length w ≡ k
-prefix-size n k w prefix within = ap length (sym prefix) ∙ length-take-le k (small_name n) within
+prefix-size n k w prefix within = ap length (sym prefix) ∙ length-take-le k (lowercase_name n) within
 
 -- the bytes of the name that goes on
 pub record GoesOn (n k : ℕ) (word : List ℕ) : Type 0 where
-  pub prefix : take (k + 1) (small_name n) ≡ word
-  pub within : k + 1 ≤ length (small_name n)
+  pub prefix : take (k + 1) (lowercase_name n) ≡ word
+  pub within : k + 1 ≤ length (lowercase_name n)
   pub begins : begins_name word ≡ true
 
 pub found : (n b k : ℕ) (w : List ℕ) → IsCap n → length w ≡ k
-    → begins_with (small_name n) (w ++ b ∷ []) ≡ true → GoesOn n k (w ++ b ∷ [])
+    → begins_with (lowercase_name n) (w ++ b ∷ []) ≡ true → GoesOn n k (w ++ b ∷ [])
 found n b k w cap size holds =
     let more : length (w ++ b ∷ []) ≡ k + 1 = length_push w b ∙ ap (λ j. j + 1) size in
-    let prefix : take (k + 1) (small_name n) ≡ w ++ b ∷ [] =
-    ap (λ j. take j (small_name n)) (sym more)
-    ∙ (bytes_eq-Decides (take (length (w ++ b ∷ [])) (small_name n)) (w ++ b ∷ [])).0 holds in
-    let cut = length-take (k + 1) (small_name n) in
-    let fits : length (take (k + 1) (small_name n)) ≡ k + 1 = ap length prefix ∙ more in
+    let prefix : take (k + 1) (lowercase_name n) ≡ w ++ b ∷ [] =
+    ap (λ j. take j (lowercase_name n)) (sym more)
+    ∙ (bytes_eq-Decides (take (length (w ++ b ∷ [])) (lowercase_name n)) (w ++ b ∷ [])).0 holds in
+    let cut = length-take (k + 1) (lowercase_name n) in
+    let fits : length (take (k + 1) (lowercase_name n)) ≡ k + 1 = ap length prefix ∙ more in
     record {
       prefix = prefix;
       within = omega arith;
-      begins = list_any_at (λ name. begins_with name (w ++ b ∷ [])) small_names n []
+      begins = list_any_at (λ name. begins_with name (w ++ b ∷ [])) lowercase_names n []
           (in-table n cap) holds;
     }
 
-pub not-found : (word : List ℕ) → ((k : ℕ) → k < 41 → begins_with (small_name k) word ≡ false)
+pub not-found : (word : List ℕ) → ((k : ℕ) → k < 41 → begins_with (lowercase_name k) word ≡ false)
     → begins_name word ≡ false
 not-found word none =
-    list_any_none (λ name. begins_with name word) small_names (λ k d within.
+    list_any_none (λ name. begins_with name word) lowercase_names (λ k d within.
     let small : k < 41 = omega (arith, names-count) in
-    ap (λ name. begins_with name word) (get_or_default small_names k d [] within) ∙ none k small)
+    ap (λ name. begins_with name word) (get_or_default lowercase_names k d [] within) ∙ none k small)

@@ -16,7 +16,7 @@ use Rattle.cred_captext.specs.declared.bytes.TextPlace.{TextPlace}
 use Rattle.cred_captext.specs.declared.bytes.TextPlace.TheVariants.{Start, A, Al, All, Name, Sign}
 use Rattle.cred_captext.specs.declared.bytes.TextPlace.TheVariants.{Letters}
 use Rattle.cred_captext.specs.declared.bytes.Reader.{Reader}
-use Rattle.cred_captext.specs.Names.{small_name, cap_of_small_name, begins_name}
+use Rattle.cred_captext.specs.Names.{lowercase_name, cap_of_lowercase_name, begins_name}
 use Rattle.cred_captext.specs.Grammar.{Listed, Everything, Unsaid, Named, Clauses}
 use Rattle.cred_captext.specs.Grammar.{IsListed}
 use Rattle.cred_captext.specs.Grammar.{MayBeginClause, operator_byte, letter_byte, listed_text}
@@ -194,17 +194,17 @@ going-on s list w b bytes x r is tail =
 
 -- a name that ends
 ending : (s : Sets) (list : Caps) (w : List ℕ) (n b : ℕ) (bytes : List ℕ) (x : Sets) (r : Reader)
-    → cap_of_small_name w ≡ Some n → separated s (with list n) b ≡ Some r → Tail r bytes x
+    → cap_of_lowercase_name w ≡ Some n → separated s (with list n) b ≡ Some r → Tail r bytes x
     → Names s list w (b ∷ bytes) x
 ending s list w n b bytes x r name is tail =
     let known = named-is w n name in
-    let whole : w ++ [] ≡ small_name n = append-nil w ∙ sym known.name in
+    let whole : w ++ [] ≡ lowercase_name n = append-nil w ∙ sym known.name in
     elim (chosen (b == 44) _ _ _ is) [
       | inl hit ↦
           let same : reader s (with list n) (Name []) ≡ r = cc in
           let next : Names s (with list n) [] bytes x =
           subst (λ t. Tail t bytes x) (sym same) tail in
-          let flat = flat_map (λ m. 44 ∷ small_name m) next.others in
+          let flat = flat_map (λ m. 44 ∷ lowercase_name m) next.others in
           record {
             number = n;
             v = [];
@@ -214,7 +214,7 @@ ending s list w n b bytes x r name is tail =
             name = whole;
             text = (λ i. eqb-true b 44 hit.0 i ∷ next.text i)
                 ∙ ap (λ y. 44 ∷ (y ++ (flat ++ next.rest))) next.name
-                ∙ ap (λ y. 44 ∷ y) (sym (append_assoc (small_name next.number) flat next.rest));
+                ∙ ap (λ y. 44 ∷ y) (sym (append_assoc (lowercase_name next.number) flat next.rest));
             acts = next.acts;
           }
       | inr miss ↦ record {
@@ -232,8 +232,8 @@ ending s list w n b bytes x r name is tail =
 at-name : (s : Sets) (list : Caps) (w : List ℕ) (b : ℕ) (bytes : List ℕ) (x : Sets) (r : Reader)
     → step_at s list (Name w) b ≡ Some r → Tail r bytes x → Names s list w (b ∷ bytes) x
 at-name s list w b bytes x r is tail =
-    elim (cap_of_small_name w) as
-    (λ o. cap_of_small_name w ≡ o → within_name s list w b o ≡ Some r → Names s list w (b ∷ bytes) x) [
+    elim (cap_of_lowercase_name w) as
+    (λ o. cap_of_lowercase_name w ≡ o → within_name s list w b o ≡ Some r → Names s list w (b ∷ bytes) x) [
       | None ↦ λ _ go. going-on s list w b bytes x r go tail
       | Some n ↦ λ name go. ending s list w n b bytes x r name go tail
     ] refl is
@@ -265,11 +265,11 @@ head-is a b xs ys same = cc
 starts-name : (s : Sets) (b : ℕ) (bytes : List ℕ) (x : Sets) → Names s empty [] (b ∷ bytes) x
     → Starts s (b ∷ bytes) x
 starts-name s b bytes x is =
-    let flat = flat_map (λ m. 44 ∷ small_name m) is.others in
+    let flat = flat_map (λ m. 44 ∷ lowercase_name m) is.others in
     starts (Named is.number is.others) s (b ∷ bytes) is.rest x is.acts is.caps tt
     (is.text
     ∙ ap (λ y. y ++ (flat ++ is.rest)) is.name
-    ∙ sym (append_assoc (small_name is.number) flat is.rest))
+    ∙ sym (append_assoc (lowercase_name is.number) flat is.rest))
 
 at-start : (s : Sets) (list : Caps) (b : ℕ) (bytes : List ℕ) (x : Sets) (r : Reader)
     → step_at s list Start b ≡ Some r → Tail r bytes x → Starts s (b ∷ bytes) x

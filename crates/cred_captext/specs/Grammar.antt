@@ -7,7 +7,7 @@ use Rattle.cred_captext.specs.declared.action.Operator.{Operator}
 use Rattle.cred_captext.specs.declared.action.Operator.TheVariants.{Reset, Raise, Lower}
 use Rattle.cred_captext.specs.declared.action.Letter.{Letter}
 use Rattle.cred_captext.specs.declared.action.Letter.TheVariants as letter
-use Rattle.cred_captext.specs.Names.{small_name}
+use Rattle.cred_captext.specs.Names.{lowercase_name}
 
 -- ---- what a text consists of
 
@@ -36,6 +36,7 @@ pub record Clauses : Type 0 where
 
 -- ---- what may stand where
 
+-- each number in the list is a capability
 abbrev pub IsListed : Listed → Type 0
 IsListed (Named n ns) = AllByRecursion IsCap (n ∷ ns)
 IsListed Everything = ⊤
@@ -70,11 +71,13 @@ AreClauses clauses = AllByRecursion IsClause clauses
 
 -- ---- how it is spelled
 
+-- `=`, `+` and `-`
 abbrev pub operator_byte : Operator → ℕ
 operator_byte Reset = 61
 operator_byte Raise = 43
 operator_byte Lower = 45
 
+-- `e`, `i` and `p`
 abbrev pub letter_byte : Letter → ℕ
 letter_byte letter.Effective = 101
 letter_byte letter.Inheritable = 105
@@ -84,7 +87,7 @@ letter_byte letter.Permitted = 112
 abbrev pub listed_text : Listed → List ℕ
 listed_text Everything = codes "all"
 listed_text Unsaid = []
-listed_text (Named n ns) = small_name n ++ flat_map (λ m. codes "," ++ small_name m) ns
+listed_text (Named n ns) = lowercase_name n ++ flat_map (λ m. codes "," ++ lowercase_name m) ns
 
 abbrev pub action_text : Action → List ℕ
 action_text a = operator_byte a.operator ∷ map letter_byte a.letters

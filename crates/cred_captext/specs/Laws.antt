@@ -1,4 +1,4 @@
--- A law of texts.
+-- A law of texts: what one says of a file is one attribute.
 use Rattle.std.specs.Prelude.{◌≡◌, ℕ, List}
 use Rattle.cred_rules.specs.Attribute.{Attribute}
 use Rattle.cred_captext.specs.Reading.{TextSays}

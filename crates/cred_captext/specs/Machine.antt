@@ -1,5 +1,6 @@
--- How a text is read: byte by byte, with what was read so far kept as a place in the grammar. The
--- laws of `Reading` say what this has to do with texts.
+-- How a text is read: byte by byte, with what was read so far kept as a place in the grammar. What
+-- a text says is defined by `Meaning` and `Reading`, without this; the calls are proved to give
+-- that.
 use Rattle.std.specs.Prelude.{ℕ, ◌==◌, List, [], ◌∷◌, ◌++◌, Some, None, if◌then◌else◌}
 use Rattle.std.specs.declared.option.Option.{Option}
 use Rattle.std.specs.Option.{option_map, option_and_then, option_or}
@@ -13,7 +14,7 @@ use Rattle.cred_captext.specs.declared.bytes.TextPlace.{TextPlace}
 use Rattle.cred_captext.specs.declared.bytes.TextPlace.TheVariants.{Start, A, Al, All, Name}
 use Rattle.cred_captext.specs.declared.bytes.TextPlace.TheVariants.{Sign, Letters}
 use Rattle.cred_captext.specs.declared.bytes.Reader.{Reader}
-use Rattle.cred_captext.specs.Names.{cap_of_small_name, begins_name}
+use Rattle.cred_captext.specs.Names.{cap_of_lowercase_name, begins_name}
 use Rattle.cred_captext.specs.Meaning.{none, after_operator, after_letter}
 
 -- ---- one byte
@@ -26,6 +27,7 @@ letter_of byte =
     else if byte == 112 then Some letter.Permitted
     else None
 
+-- the operator that a byte is
 abbrev pub operator_of : ℕ → Option Operator
 operator_of byte =
     if byte == 61 then Some Reset
@@ -35,10 +37,11 @@ operator_of byte =
 
 -- ---- steps
 
+-- a reader of these parts
 abbrev pub reader : Sets → Caps → TextPlace → Reader
 reader s list place = record { sets = s; list = list; place = place }
 
--- behind an operator: `=` needs no letter
+-- after an operator: `=` needs no letter
 abbrev pub place_after : Operator → TextPlace
 place_after Reset = Letters Reset
 place_after Raise = Sign Raise
@@ -50,7 +53,7 @@ operated s list byte =
     option_map (λ operator. reader (after_operator list operator s) list (place_after operator))
     (operator_of byte)
 
--- a letter, behind this operator
+-- a letter, after this operator
 abbrev pub lettered : Sets → Caps → Operator → ℕ → Option Reader
 lettered s list operator byte =
     option_map (λ letter. reader (after_letter list operator s letter) list (Letters operator))
@@ -60,7 +63,7 @@ lettered s list operator byte =
 abbrev pub word : Sets → TextPlace → ℕ → Option Reader
 word s place byte = if byte == 108 then Some (reader s full place) else None
 
--- behind a name
+-- after a name
 abbrev pub separated : Sets → Caps → ℕ → Option Reader
 separated s list byte =
     if byte == 44 then Some (reader s list (Name [])) else operated s list byte
@@ -69,14 +72,18 @@ separated s list byte =
 abbrev pub longer_name : Sets → Caps → List ℕ → Option Reader
 longer_name s list word = if begins_name word then Some (reader s list (Name word)) else None
 
+-- one more byte, after this word of a name: where the word is a whole name a comma or an operator,
+-- else the name goes on
 abbrev pub within_name : Sets → Caps → List ℕ → ℕ → Option ℕ → Option Reader
 within_name s list word byte (Some n) = separated s (with list n) byte
 within_name s list word byte None = longer_name s list (word ++ byte ∷ [])
 
+-- the operator of another action, or a letter more of this one
 abbrev pub letter_or_operator : Sets → Caps → Operator → ℕ → Option Reader
 letter_or_operator s list operator byte =
     option_or (operated s list byte) (lettered s list operator byte)
 
+-- one more byte, at this place
 abbrev pub step_at : Sets → Caps → TextPlace → ℕ → Option Reader
 step_at s list Start byte =
     if byte == 97 then Some (reader s full A)
@@ -85,17 +92,17 @@ step_at s list Start byte =
 step_at s list A byte = word s Al byte
 step_at s list Al byte = word s All byte
 step_at s list All byte = operated s full byte
-step_at s list (Name word) byte = within_name s list word byte (cap_of_small_name word)
+step_at s list (Name word) byte = within_name s list word byte (cap_of_lowercase_name word)
 step_at s list (Sign operator) byte = lettered s list operator byte
 step_at s list (Letters operator) byte =
     if byte == 32 then Some (reader s empty Start)
     else letter_or_operator s list operator byte
 
--- behind one more byte
+-- after one more byte
 abbrev pub after_byte : Reader → ℕ → Option Reader
 after_byte r byte = step_at r.sets r.list r.place byte
 
--- behind more bytes
+-- after more bytes
 abbrev pub run : Reader → List ℕ → Option Reader
 run r [] = Some r
 run r (byte ∷ bytes) = option_and_then (λ next. run next bytes) (after_byte r byte)
@@ -114,6 +121,7 @@ sets_at s All = None
 sets_at s (Name word) = None
 sets_at s (Sign operator) = None
 
+-- the sets that were read, where a text may end
 abbrev pub sets_at_end : Reader → Option Sets
 sets_at_end r = sets_at r.sets r.place
 

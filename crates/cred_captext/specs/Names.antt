@@ -7,17 +7,17 @@ use Rattle.cred_caps.specs.Caps.{IsCap}
 use Rattle.cred_caps.specs.Names.{cap_names}
 use Rattle.std.specs.declared.option.Option.{Option}
 
--- in small letters, by number
-abbrev pub small_names : List (List ℕ)
-small_names = map (map to_ascii_lowercase) cap_names
+-- in lower case, by number
+abbrev pub lowercase_names : List (List ℕ)
+lowercase_names = map (map to_ascii_lowercase) cap_names
 
--- the name of a capability
-abbrev pub small_name : ℕ → List ℕ
-small_name n = slice_index_or small_names n []
+-- the name of capability n, in lower case
+abbrev pub lowercase_name : ℕ → List ℕ
+lowercase_name n = slice_index_or lowercase_names n []
 
 -- the capability that has this name
-abbrev pub cap_of_small_name : List ℕ → Option ℕ
-cap_of_small_name word = position (bytes_eq word) small_names
+abbrev pub cap_of_lowercase_name : List ℕ → Option ℕ
+cap_of_lowercase_name word = position (bytes_eq word) lowercase_names
 
 -- the name begins with these bytes
 abbrev pub begins_with : List ℕ → List ℕ → Bool
@@ -25,9 +25,9 @@ begins_with name word = bytes_eq (take (length word) name) word
 
 -- some name does
 abbrev pub begins_name : List ℕ → Bool
-begins_name word = list_any (λ name. begins_with name word) small_names
+begins_name word = list_any (λ name. begins_with name word) lowercase_names
 
--- so many bytes are a front of the name of capability n
+-- the name of capability n has a prefix of `k` bytes
 pub record IsNamePrefix (n k : ℕ) : Type 0 where
   pub cap : IsCap n
-  pub within : k ≤ length (small_name n)
+  pub within : k ≤ length (lowercase_name n)

@@ -2,18 +2,19 @@
 use Rattle.std.specs.Prelude.{ℕ, Bool, true, false, List, [], ◌∷◌, ◌++◌, codes}
 use Rattle.std.specs.List.{flat_map}
 use Rattle.cred_caps.specs.Caps.{Caps}
-use Rattle.cred_captext.specs.Names.{small_name}
+use Rattle.cred_captext.specs.Names.{lowercase_name}
 use Rattle.cred_captext.specs.Printed.{cap_numbers}
 
 -- names with a comma between two
 abbrev pub comma_names : List ℕ → List ℕ
 comma_names [] = []
-comma_names (n ∷ ns) = small_name n ++ flat_map (λ m. codes "," ++ small_name m) ns
+comma_names (n ∷ ns) = lowercase_name n ++ flat_map (λ m. codes "," ++ lowercase_name m) ns
 
+-- the names of the capabilities of a set
 abbrev pub names_text : Caps → List ℕ
 names_text set = comma_names (cap_numbers set)
 
--- a space behind what stands there
+-- a space after what stands there
 abbrev pub spaced : List ℕ → List ℕ
 spaced [] = []
 spaced (byte ∷ bytes) = (byte ∷ bytes) ++ codes " "
@@ -33,12 +34,13 @@ abbrev pub action_with : Bool → List ℕ → List ℕ
 action_with true letters = codes "=e" ++ letters
 action_with false letters = codes "=" ++ letters
 
+-- a text and the clause of these capabilities after it, if there are any
 abbrev pub clause_with : List ℕ → List ℕ → Bool → List ℕ → List ℕ
 clause_with before [] effective letters = before
 clause_with before (n ∷ ns) effective letters =
     (spaced before ++ comma_names (n ∷ ns)) ++ action_with effective letters
 
--- a text and the clause of a set behind it, if the set has one
+-- a text and the clause of a set after it, if the set has one
 abbrev pub with_clause : List ℕ → Caps → Bool → List ℕ → List ℕ
 with_clause before set effective letters = clause_with before (cap_numbers set) effective letters
 

@@ -22,6 +22,7 @@ abbrev pub with_flag : Bool → List Letter → List Letter
 with_flag true letters = Effective ∷ letters
 with_flag false letters = letters
 
+-- the clause of this list, with `=` and these letters
 abbrev pub clause : Listed → List Letter → Clause
 clause listed letters = record {
   listed = listed;
@@ -47,9 +48,10 @@ abbrev pub some_clauses : List Clause → Clauses
 some_clauses [] = record { first = clause Unsaid []; others = [] }
 some_clauses (c ∷ cs) = record { first = c; others = cs }
 
+-- the clauses of the text of an attribute
 abbrev pub printed : Attribute → Clauses
 printed a = some_clauses (clauses a)
 
--- A text has no way to say that no capability is effective by a flag that is set.
+-- No text says that the effective flag is set and both sets are empty.
 abbrev pub HasText : Attribute → Type 0
 HasText a = (a.version ≡ 2) × (a.effective ≡ true → union a.perm a.inh ≢ empty)

@@ -3,7 +3,8 @@ use Rattle.std.specs.Prelude.{◌≡◌, ℕ, ◌<◌, ◌≤◌, List, Some, No
 use Rattle.cred_captext.specs.declared.bytes.Reader.{Reader}
 use Rattle.cred_captext.specs.Machine.{first_reader, run, after_byte, sets_at_end}
 
--- so many bytes were read, and the next one goes on no text, or there is none and no text ends here
+-- `k` bytes were read, and no text goes on with the next one, or there is none and no text ends
+-- here
 pub record StopsAt (bytes : List ℕ) (k : ℕ) : Type 0 where
   pub reader : Reader
   pub read : run first_reader (take k bytes) ≡ Some reader

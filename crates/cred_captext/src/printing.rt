@@ -1,7 +1,7 @@
 //! A text written.
 ghost use Rattle.std.specs.Prelude.{◌≡◌, ◌++◌, IfOk, OnOk};
 ghost use Rattle.cred_captext.specs.Grammar.{clauses_text};
-ghost use Rattle.cred_captext.specs.Names.{small_name};
+ghost use Rattle.cred_captext.specs.Names.{lowercase_name};
 ghost use Rattle.cred_captext.specs.Printed.{printed, HasText};
 ghost use Rattle.cred_captext.specs.Pieces as pieces;
 ghost use Rattle.cred_captext.specs.Reading.{TextSays};
@@ -12,9 +12,9 @@ use cred_filecap::FileCaps;
 use cred_ids::{Bytes as Text, NoMemory};
 use std::alloc::Global;
 
-/// Appends the name of a capability, in small letters.
+/// Appends the name of a capability, in lower case.
 fn append_name(out: &mut Vec<u8>, cap: Cap) -> Result<(), NoMemory>
-    ensures { OnOk result (out.new.items ≡ out.old.items ++ small_name cap) }
+    ensures { OnOk result (out.new.items ≡ out.old.items ++ lowercase_name cap) }
 {
     let name = capitals(cap);
     for byte in name {
@@ -26,7 +26,7 @@ fn append_name(out: &mut Vec<u8>, cap: Cap) -> Result<(), NoMemory>
 /// Appends the name of a capability, after a comma where another name stands before it.
 fn append_next(out: &mut Vec<u8>, comma: bool, cap: Cap) -> Result<(), NoMemory>
     ensures { OnOk result
-        (out.new.items ≡ out.old.items ++ (pieces.comma_text comma ++ small_name cap)) }
+        (out.new.items ≡ out.old.items ++ (pieces.comma_text comma ++ lowercase_name cap)) }
 {
     if comma {
         out.push(b',')?;

@@ -49,7 +49,7 @@ fn caps_of(sets: &Sets) -> Result<FileCaps, TextRefusal>
 
 /// What a text says of a file (cap_text_formats(7)): one or more clauses with one space
 /// between two. A clause is a list and one or more actions. A list is `all`, or names with `cap_`
-/// in small letters and a comma between two, or nothing, which means all and needs `=` as the first
+/// in lower case and a comma between two, or nothing, which means all and needs `=` as the first
 /// action. An action is `=` and any number of the letters `e`, `i` and `p`, or `+` or `-` and at
 /// least one of them. `=` takes the capabilities of the list out of all three sets, which start out
 /// empty, and puts them into those of its letters; `+` puts them in, and `-` takes them out. The

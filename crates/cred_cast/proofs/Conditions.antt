@@ -6,14 +6,14 @@ use Rattle.std.proofs.lemmas.List.Kept.{AllPairs-filter}
 use Rattle.cred_ids.specs.Ordered.{placed, in_order}
 use Rattle.cred_model.specs.State.{State, Task, Broadcast, task_of, broadcast_in}
 use Rattle.cred_model.specs.Ends.{is_beside}
-use Rattle.cred_model.specs.Casts.{waits_in, others_of, WaitsNowhere}
+use Rattle.cred_model.specs.Broadcasts.{waits_in, others_of, WaitsNowhere}
 use Rattle.cred_model.proofs.Lists.{AllPairs-map, Differ}
 use Rattle.cred_model.proofs.Rising.{AllPairs-tail, Below, rising-in_order, rising_differ}
-use Rattle.cred_sound.specs.Casts.{IsThread, IsUnderWay}
+use Rattle.cred_sound.specs.Broadcasts.{IsThread, IsUnderWay}
 use Rattle.cred_sound.specs.Sound.{IsSound}
 use Rattle.cred_sound.proofs.Threads.{dead_differs, one_process, waits_at}
 use Rattle.cred_sound.proofs.Unique.{none_has}
-use Rattle.cred_cast.specs.Casts.{AreBroadcasts}
+use Rattle.cred_cast.specs.Broadcasts.{AreBroadcasts}
 
 -- who waits in a broadcast is a thread of its process
 thread_of : (tasks : List Task) (broadcast : Broadcast) (task : ℕ) → IsUnderWay tasks broadcast → waits_in task broadcast ≡ true

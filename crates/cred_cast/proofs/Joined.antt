@@ -8,7 +8,7 @@ use Rattle.std.proofs.lemmas.List.Quantifiers.{position-Some}
 use Rattle.std.proofs.lemmas.Option.{slice_get_past}
 use Rattle.std.proofs.lemmas.Bool.Decides.{nat_tests}
 use Rattle.cred_model.specs.State.{Broadcast}
-use Rattle.cred_model.specs.Casts.{waits_in, with_child, joined, WaitsNowhere, SharesNone}
+use Rattle.cred_model.specs.Broadcasts.{waits_in, with_child, joined, WaitsNowhere, SharesNone}
 use Rattle.cred_model.proofs.Lists.{found_none}
 use Rattle.cred_model.proofs.Rising.{AllPairs-head, AllPairs-tail}
 use Rattle.cred_cast.proofs.Kept.{joins}

@@ -12,11 +12,11 @@ use Rattle.std.proofs.lemmas.List.Kept.{AllPairs-filter}
 use Rattle.std.proofs.lemmas.List.Quantifiers.{all_pairs_push}
 use Rattle.cred_ids.specs.Ordered.{in_order}
 use Rattle.cred_model.specs.State.{Broadcast}
-use Rattle.cred_model.specs.Casts.{waits_in, is_open, without_waiter, waits_no_more, with_child, joined, dropped, WaitsNowhere, SharesNone}
+use Rattle.cred_model.specs.Broadcasts.{waits_in, is_open, without_waiter, waits_no_more, with_child, joined, dropped, WaitsNowhere, SharesNone}
 use Rattle.cred_model.proofs.Lists.{All-kept, AllPairs-map, AllPairs-weaker, Differ, found, none_passes}
 use Rattle.cred_model.proofs.Rising.{Below, any-in_order, length-in_order, rising-in_order, rising_differ}
 use Rattle.cred_sound.proofs.Unique.{none_has}
-use Rattle.cred_cast.specs.Casts.{broadcast_under, broadcast_within, AreBroadcasts}
+use Rattle.cred_cast.specs.Broadcasts.{broadcast_under, broadcast_within, AreBroadcasts}
 
 abbrev number_of : Broadcast → ℕ
 number_of broadcast = broadcast.number

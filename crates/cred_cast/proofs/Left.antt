@@ -9,10 +9,10 @@ use Rattle.std.proofs.lemmas.List.Folds.{find_at}
 use Rattle.std.proofs.lemmas.List.Quantifiers.{position-Some}
 use Rattle.std.proofs.lemmas.Option.{slice_get-get_or}
 use Rattle.cred_model.specs.State.{Broadcast}
-use Rattle.cred_model.specs.Casts.{waits_in, is_open, without_waiter, waits_no_more, WaitsNowhere, SharesNone}
+use Rattle.cred_model.specs.Broadcasts.{waits_in, is_open, without_waiter, waits_no_more, WaitsNowhere, SharesNone}
 use Rattle.cred_model.proofs.Lists.{none_found}
 use Rattle.cred_model.proofs.Rising.{AllPairs-head, AllPairs-tail, Below}
-use Rattle.cred_cast.specs.Casts.{AreBroadcasts}
+use Rattle.cred_cast.specs.Broadcasts.{AreBroadcasts}
 use Rattle.cred_cast.proofs.Joined.{none_placed}
 use Rattle.cred_cast.proofs.Kept.{IsOpen}
 use Rattle.cred_cast.proofs.Falling.{one_fewer, stays}

@@ -1,1 +1,1 @@
-pub mod Casts
+pub mod Broadcasts

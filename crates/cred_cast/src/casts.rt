@@ -4,10 +4,10 @@ ghost use Rattle.std.specs.Prelude.{slice_get, vec_len, true, None, IfSome, OnOk
 ghost use Rattle.std.specs.List.{AllPairs, position, remove};
 ghost use Rattle.std.specs.Option.{IsSomeAnd, option_map};
 ghost use Rattle.cred_ids.specs.Ordered.{in_order};
-ghost use Rattle.cred_model.specs.Casts.{waits_in, with_broadcast, waits_no_more, joined, dropped};
-ghost use Rattle.cred_model.specs.Casts.{WaitsNowhere};
-ghost use Rattle.cred_cast.specs.Casts.{broadcast_under, broadcast_within, broadcast_by};
-ghost use Rattle.cred_cast.specs.Casts.{AreBroadcasts};
+ghost use Rattle.cred_model.specs.Broadcasts.{waits_in, with_broadcast, waits_no_more, joined};
+ghost use Rattle.cred_model.specs.Broadcasts.{dropped, WaitsNowhere};
+ghost use Rattle.cred_cast.specs.Broadcasts.{broadcast_under, broadcast_within, broadcast_by};
+ghost use Rattle.cred_cast.specs.Broadcasts.{AreBroadcasts};
 
 use crate::one_broadcast::{Cast, falling};
 use cred_ids::NoMemory;
@@ -27,7 +27,7 @@ pub struct Casts {
 impl Model for Casts {
     ghost use Rattle.std.specs.Prelude.{List};
     ghost use Rattle.cred_model.specs.State.{Broadcast};
-    ghost use Rattle.cred_cast.specs.Casts.{AreBroadcasts};
+    ghost use Rattle.cred_cast.specs.Broadcasts.{AreBroadcasts};
 
     ghost Value = { List Broadcast };
 

@@ -3,7 +3,7 @@ ghost use Rattle.std.specs.Prelude.{◌≡◌, ◌<◌, ◌+◌, length, reverse
 ghost use Rattle.std.specs.Prelude.{IfOk, OnOk, OnErr};
 ghost use Rattle.std.specs.List.{AllPairs};
 ghost use Rattle.cred_ids.specs.Ordered.{in_order};
-ghost use Rattle.cred_model.specs.Casts.{is_open, waits_in, without_waiter};
+ghost use Rattle.cred_model.specs.Broadcasts.{is_open, waits_in, without_waiter};
 
 use cred_ids::NoMemory;
 use cred_record::IdCall;

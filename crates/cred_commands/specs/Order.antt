@@ -20,7 +20,7 @@ abbrev pub NotBegun : Script → List Entry → ℕ → Type 0
 NotBegun script journal k =
     IfSome (slice_get script.lines k) (λ line. answers_of journal (k + 1) ≡ [])
 
--- So many lines have ended, and no later one has begun.
+-- The first `past` lines have ended, and no later one has begun.
 pub record IsPast (script : Script) (journal : List Entry) (past : ℕ) : Type 0 where
   pub ended : (k : ℕ) → k < past → LineHasEnded script journal k
   pub later : (k : ℕ) → past ≤ k → NotBegun script journal k
@@ -36,8 +36,8 @@ pub record StandsAt (script : Script) (journal : List Entry) (line : Line) (cour
   pub later : (k : ℕ) → place < k → NotBegun script journal k
   pub stands : course ≡ leads (place + 1) line.content (answers_of journal (place + 1))
 
--- The state has come as far as the journal, in which so many lines have run whole and in order, and
--- nothing else.
+-- The state has come as far as the journal, in which the first `past` lines have run whole and in
+-- order, and nothing else.
 pub record IsAfter (script : Script) (journal : List Entry) (past : ℕ) (state : State)
     : Type 0 where
   pub order : IsInOrder script journal
@@ -48,7 +48,7 @@ pub record IsAfter (script : Script) (journal : List Entry) (past : ℕ) (state 
 abbrev pub HasRun : Script → ℕ → State → Type 0
 HasRun script past state = (journal : List Entry) × IsAfter script journal past state
 
--- how many entries are still to be made, at most, where so many lines have run
+-- how many entries are still to be made, at most, where the first `past` lines have run
 abbrev pub most_left : Script → ℕ → State → ℕ
 most_left script past state = LINE_EVENTS * (length script.lines - past) + waiting state
 

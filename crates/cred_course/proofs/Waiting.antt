@@ -6,7 +6,7 @@ use Rattle.std.proofs.lemmas.List.{length_push}
 use Rattle.std.proofs.lemmas.List.Sums.{count_by-le-length, length-filter, sum_by-append, sum_by-cons}
 use Rattle.cred_ids.specs.Ordered.{in_order}
 use Rattle.cred_model.specs.State.{Broadcast}
-use Rattle.cred_model.specs.Casts.{is_open, joined, waits_in, waits_no_more, with_broadcast, with_child, without_waiter, SharesNone}
+use Rattle.cred_model.specs.Broadcasts.{is_open, joined, waits_in, waits_no_more, with_broadcast, with_child, without_waiter, SharesNone}
 use Rattle.cred_model.proofs.Rising.{AllPairs-head, AllPairs-tail, length-in_order}
 use Rattle.cred_cast.proofs.Joined.{joined_none}
 use Rattle.cred_course.specs.Waiting.{waiting_in}

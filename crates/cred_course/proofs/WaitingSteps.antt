@@ -19,7 +19,7 @@ use Rattle.cred_record.specs.declared.refusal.Denial.{Denial}
 use Rattle.cred_model.specs.Script.{Script}
 use Rattle.cred_model.specs.State.{State, Task, Broadcast, Numbered, numbered, task_of, broadcast_of}
 use Rattle.cred_model.specs.Ends.{is_beside}
-use Rattle.cred_model.specs.Casts.{others_of, waits_no_more, dropped}
+use Rattle.cred_model.specs.Broadcasts.{others_of, waits_no_more, dropped}
 use Rattle.cred_model.specs.Change.{by_rule}
 use Rattle.cred_model.specs.Course.{some_wait}
 use Rattle.cred_model.specs.Dumpable.{differs, renewed}

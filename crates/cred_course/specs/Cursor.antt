@@ -63,19 +63,19 @@ IsLaneCursor script journal lane (Some course) =
 abbrev pub LINE_EVENTS : ℕ
 LINE_EVENTS = TRY_EVENTS * TRIES + TASKS
 
--- how many more tasks may wait after a line's next event, at most: an id call lets all other
+-- how many more tasks may wait after a line's next event, at most: an id call makes all other
 -- threads of its task's process wait, and a new thread waits where its creator does
 abbrev pub new_waiters : Content → Option Stage → ℕ
 new_waiters (One event) (Some First) = TASKS
 new_waiters (Id task call) (Some First) = TASKS
 new_waiters content stage = 0
 
--- so it is with the line of a course
+-- the same for the line of a course
 abbrev pub new_waiters_at : Script → Course → ℕ
 new_waiters_at script course =
     option_map_or (λ line. new_waiters line.content course.stage) (line_at script course.line) 0
 
--- How many steps may be left where the cursor stands here, at most, beside those of the tasks that
+-- How many steps may be left where the cursor stands here, at most, besides those of the tasks that
 -- wait already. The step of a task that waits is not counted with its line.
 abbrev pub left_at : Script → Option Course → ℕ
 left_at script cursor =

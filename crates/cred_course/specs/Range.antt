@@ -2,7 +2,7 @@
 use Rattle.std.specs.Prelude.{ℕ, ◌≤◌}
 use Rattle.cred_ids.specs.Limits.{TRIES, LINE_LIMIT}
 
--- A script has no more lines, and a line no more tries.
+-- The number of the course's line is that of a line, and the try is one of those that a line has.
 pub record IsInRange (number tries : ℕ) : Type 0 where
   pub line : number ≤ LINE_LIMIT
   pub begun : 1 ≤ tries

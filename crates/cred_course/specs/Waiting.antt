@@ -7,5 +7,6 @@ use Rattle.cred_model.specs.State.{State, Broadcast}
 abbrev pub waiting_in : List Broadcast → ℕ
 waiting_in broadcasts = sum_by (λ broadcast. length broadcast.waiting) broadcasts
 
+-- how many wait in a state
 abbrev pub waiting : State → ℕ
 waiting s = waiting_in s.broadcasts

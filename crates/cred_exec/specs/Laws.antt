@@ -25,6 +25,7 @@ pub record AreGains (before after : Caps) (g : Gains) : Type 0 where
   pub inherit_root : meet g.inherit g.root ≡ empty
   pub all : union g.file (union g.inherit g.root) ≡ less after before
 
+-- the gains that an execve reports are those
 abbrev pub GainsAreWhatIsGained : Type 0
 GainsAreWhatIsGained = OfEachExec (λ c f chain e. AreGains c.perm e.cred.perm e.gains)
 
@@ -35,6 +36,7 @@ pub record GainsNothing (before after : Caps) (g : Gains) : Type 0 where
   pub inherit : g.inherit ≡ empty
   pub root : g.root ≡ empty
 
+-- under no_new_privs an execve gains nothing (prctl(2), PR_SET_NO_NEW_PRIVS)
 abbrev pub NoNewPrivsGainsNothing : Type 0
 NoNewPrivsGainsNothing =
     OfEachExec (λ c f chain e. c.nnp ≡ true → GainsNothing c.perm e.cred.perm e.gains)
@@ -59,6 +61,7 @@ pub record KeepsSets (before after : Credential) : Type 0 where
   pub inheritable : after.inh ≡ before.inh
   pub bounding : after.bound ≡ before.bound
 
+-- an execve changes neither
 abbrev pub InheritableAndBoundingStay : Type 0
 InheritableAndBoundingStay = OfEachExec (λ c f chain e. KeepsSets c e.cred)
 
@@ -75,5 +78,6 @@ pub record KeepsIdentity (before after : Credential) : Type 0 where
   pub root : after.root ≡ before.root
   pub no_new_privs : after.nnp ≡ before.nnp
 
+-- an execve changes none of that
 abbrev pub RealIdsAndGroupsStay : Type 0
 RealIdsAndGroupsStay = OfEachExec (λ c f chain e. KeepsIdentity c e.cred)

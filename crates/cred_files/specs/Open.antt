@@ -10,7 +10,7 @@ use Rattle.cred_files.specs.declared.open_file.File.{File}
 
 -- What is true of the open files at all times.
 pub record AreOpen (files : List OpenFile) : Type 0 where
-  -- no two have one descriptor
+  -- no two share a descriptor
   pub apart : IsDistinct nat_eq (map (λ f. f.fd) files)
   pub few : length files ≤ OPEN_FILES
 
@@ -33,6 +33,7 @@ pub record Closes (before after : List OpenFile) (fd opener : ℕ) : Type 0 wher
 
 -- ---- how the open files are kept: each by its descriptor
 
+-- an entry of the map, as an open file
 abbrev pub file_as : ℕ → File → OpenFile
 file_as fd f = record { fd = fd; opener = f.opener; file = f.file }
 

@@ -8,7 +8,7 @@ use Rattle.cred_ids.specs.Limits.{DEPTH, SLOTS}
 use Rattle.cred_ids.specs.Tests.{◌>>=◌}
 use Rattle.cred_event.specs.declared.answer.Answer.{Answer}
 use Rattle.cred_event.specs.declared.answer.Answer.TheVariants as answer
-use Rattle.cred_model.specs.Casts.{not_busy}
+use Rattle.cred_model.specs.Broadcasts.{not_busy}
 use Rattle.cred_model.specs.Moves.{fewer_or, not_overridden}
 use Rattle.cred_model.specs.State.{State, SealedCred, Task, Broadcast, Prepared, Changed, Numbered, numbered}
 use Rattle.cred_model.specs.Step.{outcome}

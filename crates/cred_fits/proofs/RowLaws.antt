@@ -38,7 +38,7 @@ use Rattle.cred_event.specs.declared.event.Side.{Side}
 use Rattle.cred_event.specs.Answers.{is_ok}
 use Rattle.cred_model.specs.Answers.{flag, checked, reply}
 use Rattle.cred_model.specs.Change.{Made, by_rule, made_by_rule, made_by_execve, made_by_exec, by_change}
-use Rattle.cred_model.specs.Casts.{others_of, with_broadcast, waits_no_more}
+use Rattle.cred_model.specs.Broadcasts.{others_of, with_broadcast, waits_no_more}
 use Rattle.cred_model.specs.Dumpable.{differs, renewed, set_flag, flags_begun, flags_committed}
 use Rattle.cred_model.specs.Ends.{ended, is_thread_of}
 use Rattle.cred_model.specs.Moves.{in_slot, table_full, first_task, created, replaced, preparing, altered, committed, given_up}

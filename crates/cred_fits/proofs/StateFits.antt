@@ -27,12 +27,12 @@ use Rattle.cred_event.specs.declared.event.Query.{Query}
 use Rattle.cred_event.specs.declared.event.Query.TheVariants as query
 use Rattle.cred_event.specs.declared.event.Side.{Side}
 use Rattle.cred_model.specs.Answers.{flag, checked, reply}
-use Rattle.cred_model.specs.Casts.{waits_no_more, joined, with_child, without_waiter, dropped, is_open, waits_in}
+use Rattle.cred_model.specs.Broadcasts.{waits_no_more, joined, with_child, without_waiter, dropped, is_open, waits_in}
 use Rattle.cred_model.specs.Change.{Made, by_rule}
 use Rattle.cred_model.specs.Dumpable.{flags_begun, flags_committed, flag_of_value}
 use Rattle.cred_model.specs.Ends.{ended, survivors}
 use Rattle.cred_model.specs.Moves.{table_full, first_task, created, preparing, altered, committed, given_up, with_current, updated, with_overrides}
-use Rattle.cred_model.specs.Moves.{overriding, with_change, relabelled}
+use Rattle.cred_model.specs.Moves.{overriding, with_change, altered_at}
 use Rattle.cred_model.specs.Named.{query_files, change_files}
 use Rattle.cred_model.specs.Script.{Script, chain_of}
 use Rattle.cred_model.specs.Slots.{refs}
@@ -246,7 +246,7 @@ of_prepare s label task hold known fits =
 
 changed_fits : (s : State) (label : ℕ) (to : Changed) → IsInRange s → FitsChanged to → All FitsPrepared (with_change s.prepared label to)
 changed_fits s label to range fits =
-    All-kept FitsPrepared (relabelled label to) s.prepared (λ p h. changed_as FitsPrepared label to p (λ test. (h.0, h.1, fits)) h) range.prepared
+    All-kept FitsPrepared (altered_at label to) s.prepared (λ p h. changed_as FitsPrepared label to p (λ test. (h.0, h.1, fits)) h) range.prepared
 
 of_altered : (s : State) (label : ℕ) (to : Change) (r : Result Made Answer) → IsKnown s → FitsMade r
     → Gives s (r >>= λ made. Ok (made.answer, altered s label (record { change = to; cred = made.cred; gains = made.gains })))
@@ -336,7 +336,7 @@ sealed_below s n known has =
 
 tried : (s : State) (task place : ℕ) (p : Prepared) (owner : Task) (last : Changed) → IsKnown s → slice_get s.prepared place ≡ Some p
     → task_of s task ≡ Some owner → FitsChanged last → Good (try_commit s place p owner last)
-tried s task place p owner last known at found relabelled =
+tried s task place p owner last known at found altered_at =
     let range = known.range in
     let fits = prepared_at s place p range at in
     let ends = ends_with last.change owner in
@@ -346,10 +346,10 @@ tried s task place p owner last known at found relabelled =
     )
     (answer.Stale p.base owner.current, given_up s place p))) [
       | true ↦ (
-        commit_fits last.change last.gains (length s.creds) p.slot (count_by ends s.tasks) relabelled.1 known.creds (slot_number p.slot fits.1)
+        commit_fits last.change last.gains (length s.creds) p.slot (count_by ends s.tasks) altered_at.1 known.creds (slot_number p.slot fits.1)
             (let few = known.tasks in omega (arith, few, count_by-le-length ends s.tasks)),
         broadcasts_after_fit last.change owner (committed (ended ends s) place p owner.current last.cred) (record {
-          creds = with_cred s.creds last.cred p.slot range.creds relabelled.0 fits.1;
+          creds = with_cred s.creds last.cred p.slot range.creds altered_at.0 fits.1;
           tasks = current_fits (survivors ends s.tasks) p.task (length s.creds) (survivors_fit ends s.tasks range.tasks);
           broadcasts = range.broadcasts;
           prepared = All-remove FitsPrepared s.prepared place range.prepared;

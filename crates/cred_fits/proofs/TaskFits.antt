@@ -22,7 +22,7 @@ use Rattle.cred_event.specs.declared.event.Event.{Event}
 use Rattle.cred_event.specs.declared.event.Event.TheVariants as event
 use Rattle.cred_event.specs.Answers.{is_ok}
 use Rattle.cred_model.specs.Answers.{checked}
-use Rattle.cred_model.specs.Casts.{others_of, with_broadcast, waits_no_more, is_open}
+use Rattle.cred_model.specs.Broadcasts.{others_of, with_broadcast, waits_no_more, is_open}
 use Rattle.cred_model.specs.Change.{by_rule}
 use Rattle.cred_model.specs.Dumpable.{differs, renewed}
 use Rattle.cred_model.specs.Ends.{is_thread_of, is_beside, is_task}
@@ -37,7 +37,7 @@ use Rattle.cred_model.proofs.Lists.{All-at, All-remove, find_each, slice_get_at}
 use Rattle.cred_model.proofs.Rising.{All-in_order, All-passed, length-in_order}
 use Rattle.cred_model.proofs.Waiting.{greatest_bounds}
 use Rattle.cred_laws.proofs.Cases.{some_case, none_case, test_case}
-use Rattle.cred_sound.specs.Casts.{IsUnderWay}
+use Rattle.cred_sound.specs.Broadcasts.{IsUnderWay}
 use Rattle.cred_sound.proofs.Tests.{in_slots}
 use Rattle.cred_sound.proofs.Parts.{with_left}
 use Rattle.cred_reader.specs.Fits.{IsNumber, FitsCall, FitsEvent}

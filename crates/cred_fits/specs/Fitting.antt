@@ -25,8 +25,8 @@ pub record EventFits (script : Script) (entry : Entry) : Type 0 where
   pub event : FitsEvent entry.event
   pub names : IsOf script entry.event
 
--- So it is of each entry of a journal so far of the script that a text is, if that has no more
--- lines than a script may have.
+-- This holds of each entry of a journal so far of a script that is read from a text, if it has no
+-- more lines than a script may have.
 abbrev pub EventsFit : Type 0
 EventsFit =
     (bytes : List ℕ) (script : Script) (journal : List Entry)
@@ -57,7 +57,7 @@ OneFittingList =
 abbrev pub MOST_A_LINE : ℕ
 MOST_A_LINE = 150
 
--- A journal so far has no more entries than so many for each line of its script.
+-- A journal so far has no more than MOST_A_LINE entries for each line of its script.
 abbrev pub JournalsAreShort : Type 0
 JournalsAreShort =
     (script : Script) (journal : List Entry)

@@ -34,7 +34,7 @@ use Rattle.cred_event.specs.declared.event.Query.TheVariants as query
 use Rattle.cred_event.specs.declared.event.Side.{Side}
 use Rattle.cred_event.specs.Answers.{is_ok}
 use Rattle.cred_model.specs.Answers.{refusal, flag, checked, reply}
-use Rattle.cred_model.specs.Casts.{others_of, with_broadcast, waits_no_more}
+use Rattle.cred_model.specs.Broadcasts.{others_of, with_broadcast, waits_no_more}
 use Rattle.cred_model.specs.Change.{Made, by_rule, made_by_rule, made_by_execve, made_by_exec, by_change}
 use Rattle.cred_model.specs.Dumpable.{differs, renewed, flags_begun, flags_committed, flag_of_value}
 use Rattle.cred_model.specs.Ends.{ended, is_thread_of}

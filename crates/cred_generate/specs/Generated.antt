@@ -1,4 +1,4 @@
--- The script that is made from a number: one task of root, and so many calls of it, five in turn,
+-- The script that is made from a number: one task of root, and as many calls of it, five in turn,
 -- the last of which is refused.
 use Rattle.std.specs.Prelude.{ℕ, ◌%◌, ◌==◌, List, [], ◌∷◌, ◌++◌, map, codes, if◌then◌else◌}
 use Rattle.std.specs.List.{flat_map, range_with_len}
@@ -20,6 +20,7 @@ call_by remainder =
     else if remainder == 4 then codes "t1 setfsuid 1000"
     else codes "t1 ambraise 0"
 
+-- the line of the call with this number
 abbrev pub call : ℕ → List ℕ
 call number = call_by (number % 5)
 

@@ -16,7 +16,7 @@ number_named (Began number slot left) = Some number
 number_named (Acted task number slot left) = Some number
 number_named answer = None
 
--- the answer names the credential that is sealed next, where so many are
+-- the answer names the credential that is sealed next, where `count` are
 abbrev pub is_next : ℕ → Answer → Bool
 is_next count answer = option_map_or (λ number. number == count) (number_named answer) false
 

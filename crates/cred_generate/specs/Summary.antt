@@ -38,7 +38,7 @@ told_on told entries = record told {
   refusals = told.refusals + count_by is_refused entries;
 }
 
--- So many entries more can be counted.
+-- `more` entries can still be counted.
 pub record HasRoom (told : Summary) (more : ℕ) : Type 0 where
   pub entries : told.entries + more < 2 ^ 64
   pub credentials : told.credentials ≤ told.entries

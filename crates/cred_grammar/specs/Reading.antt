@@ -83,6 +83,7 @@ has_names reading (Starts content) = uses_declared reading content
 has_names reading (Lane number) = true
 has_names reading (Holds by content) = uses_declared reading content
 
+-- where they aren't so, the line is refused for a name
 abbrev pub names_declared : Reading → Parsed → Result (Unit {0}) Reason
 names_declared reading line = if has_names reading line then Ok tt else Err Name
 
@@ -97,6 +98,7 @@ is_apart reading (Holds by content) =
     may_change reading.lanes content && may_name reading.lanes by content
 is_apart reading other = true
 
+-- where it isn't so, the line is refused for its lane
 abbrev pub lanes_apart : Reading → Parsed → Result (Unit {0}) Reason
 lanes_apart reading line = if is_apart reading line then Ok tt else Err reason.Lane
 

@@ -66,7 +66,7 @@ IsParsed reading (Starts content) = IsStart reading content
 IsParsed reading (Lane number) = (1 ≤ number) × (number ≤ LAST_LANE)
 IsParsed reading (Holds by content) = IsTaskLine reading by content
 
--- what is true of the lines that were read, where so many files, these namespaces and these lanes
+-- what is true of the lines that were read, where `count` files, these namespaces and these lanes
 -- were read
 pub record AreLinesRead (count : ℕ) (declared : List Namespace) (lanes : Lanes) (lines : List Line)
     : Type 0 where

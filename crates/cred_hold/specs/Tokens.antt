@@ -60,14 +60,16 @@ abbrev pub seen_if : Bool → List ℕ → Option Credential
 seen_if true ws = Some (credential_in ws)
 seen_if false ws = None
 
+-- a loan, by its words
 abbrev pub loan_seen : Token → Loan
 loan_seen t = loan t.label t.slot (seen_if (not t.writes) t.words)
 
+-- the credential of a slot, if it is sealed
 abbrev pub slot_seen : Slot → Option Credential
 slot_seen x = seen_if x.sealed x.words
 
 -- the words of each slot are a credential's, sealed or not: at first they are those of a credential
--- whose numbers are all 0, and no more than whole credentials is ever put
+-- whose numbers are all 0, and nothing but whole credentials is ever put
 abbrev pub AreSlots : List Slot → Type 0
 AreSlots slots = (s : ℕ) (x : Slot) → slice_get slots s ≡ Some x → are_words x.words ≡ true
 

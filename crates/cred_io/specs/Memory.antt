@@ -30,6 +30,6 @@ pub record SureState : Type 0 where
 abbrev pub WHOLE : ℕ
 WHOLE = 2 ^ 64 - 1
 
--- after so many calls, the next is one of those that fail
+-- after `calls` calls, the next is one of those that fail
 abbrev pub FailsNext : List ℕ → ℕ → Type 0
 FailsNext failing calls = Contains failing (next_count calls)

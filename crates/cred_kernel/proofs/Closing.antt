@@ -12,11 +12,11 @@ use Rattle.atomic_table.specs.Seated.{TableId}
 use Rattle.cred_book.specs.Book.{Recorded}
 use Rattle.cred_book.specs.Counts.{ended_of, entered_of, lines_in}
 use Rattle.cred_kernel.specs.Locks.{AreTheirs, IsLocked, numbers_in}
-use Rattle.cred_kernel.specs.Turns.{AreAllTurns, AreCounted, HaveEnded, turn_at, Seen}
+use Rattle.cred_kernel.specs.Turns.{AreAllTurns, AreCounted, HaveEnded, turn_at, SeenTurn}
 use Rattle.cred_kernel.proofs.Ends.{is_legal}
 
 -- A turn has the numbers of its lane in the journal.
-their_numbers : (script : Script) (id cells : TableId) (infos : List File) (book : Recorded) (roll : Rolled) (turns : List Seen)
+their_numbers : (script : Script) (id cells : TableId) (infos : List File) (book : Recorded) (roll : Rolled) (turns : List SeenTurn)
     → IsLocked script id cells infos book roll → AreTheirs roll.rows turns
     → AreAllTurns script turns → (k : ℕ) → k < length turns → numbers_in book (k + 1) ≡ (turn_at turns k).numbers
 their_numbers script id cells infos book roll turns kept theirs all k lt =
@@ -24,7 +24,7 @@ their_numbers script id cells infos book roll turns kept theirs all k lt =
     let here : HasRow roll.rows (k + 1) = (omega arith, omega (arith, kept.lent.count, same, all.count, lt)) in
     ap (λ (r : LaneRow). r.numbers) (sym (kept.lent.each (k + 1) here) ∙ theirs k lt)
 
-lane_over : (script : Script) (id cells : TableId) (infos : List File) (book : Recorded) (roll : Rolled) (turns : List Seen)
+lane_over : (script : Script) (id cells : TableId) (infos : List File) (book : Recorded) (roll : Rolled) (turns : List SeenTurn)
     → IsLocked script id cells infos book roll → AreTheirs roll.rows turns
     → AreAllTurns script turns → HaveEnded script turns → (lane k : ℕ) → lane ≡ k + 1 → k < length turns
     → ended_of book.script book.journal lane ≡ lines_in book.script lane
@@ -36,7 +36,7 @@ lane_over script id cells infos book roll turns kept theirs all ended lane k is 
     ∙ ap (lines_in script) at
     ∙ ap (λ (s : Script). lines_in s lane) (sym kept.script_is)
 
-pub close_is_legal : (script : Script) (id cells : TableId) (infos : List File) (book : Recorded) (roll : Rolled) (turns : List Seen)
+pub close_is_legal : (script : Script) (id cells : TableId) (infos : List File) (book : Recorded) (roll : Rolled) (turns : List SeenTurn)
     → IsLocked script id cells infos book roll → AreTheirs roll.rows turns
     → AreAllTurns script turns → HaveEnded script turns → IsLegal script book.journal
 close_is_legal script id cells infos book roll turns kept theirs all ended =
@@ -45,7 +45,7 @@ close_is_legal script id cells infos book roll turns kept theirs all ended =
     (is_legal book.script book.journal kept.stands.so_far kept.set_up (λ lane some few.
     lane_over script id cells infos book roll turns kept theirs all ended lane (lane - 1) (omega (arith, some)) (omega (arith, some, few, same, all.count))))
 
-pub close_counts : (script : Script) (id cells : TableId) (infos : List File) (book : Recorded) (roll : Rolled) (turns : List Seen)
+pub close_counts : (script : Script) (id cells : TableId) (infos : List File) (book : Recorded) (roll : Rolled) (turns : List SeenTurn)
     → IsLocked script id cells infos book roll → AreTheirs roll.rows turns
     → AreAllTurns script turns → AreCounted script book.journal turns
 close_counts script id cells infos book roll turns kept theirs all k lt =

@@ -6,7 +6,7 @@ use mathlib.Core.Logic.{dite}
 use native.Mathlib.Decide.{ℕ_discrete}
 use Rattle.cred_turn.specs.declared.view.LaneRow.{LaneRow}
 use Rattle.cred_turn.specs.Rows.{fresh, home_row, with_row}
-use Rattle.cred_kernel.specs.Turns.{Seen, turn_at}
+use Rattle.cred_kernel.specs.Turns.{SeenTurn, turn_at}
 
 -- What holds at each of the first places, and at the next one.
 one_more : (P : ℕ → Type 0) (n : ℕ) → ((k : ℕ) → k < n → P k) → P n → (k : ℕ) → k < n + 1 → P k
@@ -32,10 +32,10 @@ pub home_after : (rows : List LaneRow) (n k : ℕ) (here : LaneRow) → n + 1 �
 home_after rows n k here past = get_or-set_other rows (n + 1 - 1) k here (home_row fresh) (λ same. omega (arith, same, past))
 
 -- one turn more
-pub turns_more : (turn : ℕ → Seen) (turns : List Seen) (n : ℕ) (here : Seen) → here ≡ turn n → length turns ≡ n
+pub turns_more : (turn : ℕ → SeenTurn) (turns : List SeenTurn) (n : ℕ) (here : SeenTurn) → here ≡ turn n → length turns ≡ n
     → ((k : ℕ) → k < n → turn_at turns k ≡ turn k) → (k : ℕ) → k < n + 1 → turn_at (turns ++ here ∷ []) k ≡ turn k
 turns_more turn turns n here is count are =
-    let d : Seen = record { lane = 0; numbers = fresh } in
+    let d : SeenTurn = record { lane = 0; numbers = fresh } in
     one_more (λ k. turn_at (turns ++ here ∷ []) k ≡ turn k) n
     (λ k lt. get_or-append turns (here ∷ []) d k (omega (arith, count, lt)) ∙ are k lt)
     (get_or_at turns here [] d n count ∙ is)

@@ -13,13 +13,13 @@ use Rattle.cred_book.specs.Book.{Recorded, infos_in}
 use Rattle.cred_book.specs.Counts as counts
 use Rattle.cred_book.specs.Counts.{Counts, IsOutNow, IsSetUp, decided_of, ended_of, entered_of}
 use Rattle.cred_book.specs.Cursor.{Makes}
-use Rattle.cred_book.specs.Works.{IsLanes}
+use Rattle.cred_book.specs.Works.{IsOfLane}
 use Rattle.cred_book.specs.declared.step.Step.{Step}
 use Rattle.cred_book.specs.declared.step.Step.TheVariants.{More, Ended}
 use Rattle.cred_book.specs.declared.step.Step.TheVariants as step
 use Rattle.cred_kernel.specs.Advances.{Advanced, TurnHasEntered, after_finish, after_step}
 use Rattle.cred_kernel.specs.Locks.{numbers_in}
-use Rattle.cred_kernel.specs.Turns.{Seen}
+use Rattle.cred_kernel.specs.Turns.{SeenTurn}
 
 abbrev numbers : ℕ → ℕ → ℕ → Option ℕ → LaneNumbers
 numbers entered decided ended out = record { entered = entered; decided = decided; ended = ended; out = out }
@@ -78,7 +78,7 @@ as_it_was before after lane None made = made
 as_it_was before after lane (Some entry) made = absurd made
 
 work_of : (before after : Recorded) (lane : ℕ) (entry : Option Entry) (work : Work) → Makes before after lane entry (step.Work work)
-    → IsUndecided work × IsLanes after lane work
+    → IsUndecided work × IsOfLane after lane work
 work_of before after lane None work made = absurd made
 work_of before after lane (Some entry) work made = (made.3, made.4)
 
@@ -96,7 +96,7 @@ moved {E} before after lane was entry (Ok Ended) is home script made counts err 
     stays before after lane was is (as_it_was before after lane entry made)
 moved {E} before after lane was entry (Err e) is home script made counts err = stays before after lane was is err
 
-abbrev pub seen : ℕ → LaneNumbers → Seen
+abbrev pub seen : ℕ → LaneNumbers → SeenTurn
 seen lane numbers = record { lane = lane; numbers = numbers }
 
 -- What the numbers of the lane say of the turn, where it had the lane's numbers before.

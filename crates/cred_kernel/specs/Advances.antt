@@ -11,11 +11,11 @@ use Rattle.cred_book.specs.Works.{IsWorkOf}
 use Rattle.cred_book.specs.declared.step.Step.{Step}
 use Rattle.cred_book.specs.declared.step.Step.TheVariants.{More, Ended}
 use Rattle.cred_book.specs.declared.step.Step.TheVariants as step
-use Rattle.cred_kernel.specs.Turns.{Seen, LaneHasEnded}
+use Rattle.cred_kernel.specs.Turns.{SeenTurn, LaneHasEnded}
 
--- The turn had a line left, and has entered one event more, of which so many had gone out as a work
--- first: one or none. At most one of its lines has ended by that.
-pub record TurnHasEntered (script : Script) (works : ℕ) (old new : Seen) : Type 0 where
+-- The turn had a line left, and has entered one event more, which had gone out as a work first
+-- where `works` is 1, and not where it is 0. At most one of its lines has ended by that.
+pub record TurnHasEntered (script : Script) (works : ℕ) (old new : SeenTurn) : Type 0 where
   pub lane : new.lane ≡ old.lane
   pub entered : new.numbers.entered ≡ old.numbers.entered + 1
   pub decided : new.numbers.decided ≡ old.numbers.decided + works
@@ -27,7 +27,7 @@ pub record TurnHasEntered (script : Script) (works : ℕ) (old new : Seen) : Typ
 -- and of these cells. It is not decided yet, and nothing was entered.
 pub record HasGiven
     (script : Script) (infos : List File) (cells : TableId)
-    (old new : Seen) (work : Work) : Type 0 where
+    (old new : SeenTurn) (work : Work) : Type 0 where
   pub turn : new ≡ record {
     lane = old.lane;
     numbers = record old.numbers { out = Some work.line };
@@ -38,12 +38,12 @@ pub record HasGiven
 
 -- What a step made of the turn. It was Ended exactly if no line of the lane was left, and what was
 -- entered was no work's.
-abbrev pub Advanced : Script → List File → TableId → Seen → Seen → Step → Type 0
+abbrev pub Advanced : Script → List File → TableId → SeenTurn → SeenTurn → Step → Type 0
 Advanced script infos cells old new More = TurnHasEntered script 0 old new
 Advanced script infos cells old new (step.Work work) = HasGiven script infos cells old new work
 Advanced script infos cells old new Ended = (new ≡ old) × LaneHasEnded script new
 
--- the numbers of a lane after a step, by which so many of its lines have ended
+-- the numbers of a lane after a step, where `ended` of its lines have then ended
 abbrev pub after_step : {E : Type 0} → LaneNumbers → ℕ → Result Step E → LaneNumbers
 after_step numbers ended (Ok More) =
     record numbers { entered = numbers.entered + 1; ended = ended; out = None }
@@ -51,7 +51,7 @@ after_step numbers ended (Ok (step.Work work)) =
     record numbers { ended = ended; out = Some work.line }
 after_step numbers ended step = record numbers { ended = ended }
 
--- the numbers of a lane after its work came back, by which so many of its lines have ended
+-- the numbers of a lane after its work came back, where `ended` of its lines have then ended
 abbrev pub after_finish : {E : Type 0} → LaneNumbers → ℕ → Result Step E → LaneNumbers
 after_finish numbers ended (Ok step) = record {
   entered = numbers.entered + 1;

@@ -12,7 +12,7 @@ use Rattle.cred_turn.specs.Seen.{Rolled}
 use Rattle.cred_book.specs.Book.{Recorded, infos_in, out_of}
 use Rattle.cred_book.specs.Counts.{IsSetUp, decided_of, ended_of, entered_of}
 use Rattle.cred_book.specs.Cursor.{BookStands}
-use Rattle.cred_kernel.specs.Turns.{Seen, turn_at}
+use Rattle.cred_kernel.specs.Turns.{SeenTurn, turn_at}
 
 -- the parts of a kernel: the book's script, the identities of the roll and of the cells, and the
 -- files as they stand
@@ -73,6 +73,6 @@ pub record IsLocked
   pub lent : AreLent book roll.rows
 
 -- each turn's row was lent with the turn's numbers
-abbrev pub AreTheirs : List LaneRow → List Seen → Type 0
+abbrev pub AreTheirs : List LaneRow → List SeenTurn → Type 0
 AreTheirs rows turns =
     (k : ℕ) → k < length turns → row_of rows (k + 1) ≡ lent_row (turn_at turns k).numbers

@@ -27,7 +27,7 @@ no_table = record {
 }
 
 -- a turn: its lane, and how far the lane has come
-pub record Seen : Type 0 where
+pub record SeenTurn : Type 0 where
   pub lane : ℕ
   pub numbers : LaneNumbers
 
@@ -39,39 +39,40 @@ pub record IsTurn
   pub pass_is : its_pass ≡ Some (pass roll lane numbers)
 
 -- all lines of the turn's lane have ended, and none of them is being decided
-abbrev pub LaneHasEnded : Script → Seen → Type 0
+abbrev pub LaneHasEnded : Script → SeenTurn → Type 0
 LaneHasEnded script turn =
     (turn.numbers.ended ≡ lines_in script turn.lane) × (turn.numbers.out ≡ None)
 
 -- nothing was entered by the turn, and no line of it is being decided
-pub record IsFresh (turn : Seen) : Type 0 where
+pub record IsFresh (turn : SeenTurn) : Type 0 where
   pub entered : turn.numbers.entered ≡ 0
   pub decided : turn.numbers.decided ≡ 0
   pub out : turn.numbers.out ≡ None
 
 -- the turn at this place, which is that of the lane of the next number
-abbrev pub turn_at : List Seen → ℕ → Seen
+abbrev pub turn_at : List SeenTurn → ℕ → SeenTurn
 turn_at turns place = slice_index_or turns place (record { lane = 0; numbers = fresh })
 
 -- one turn for each lane, in order, the first of which is lane 1
-pub record AreAllTurns (script : Script) (turns : List Seen) : Type 0 where
+pub record AreAllTurns (script : Script) (turns : List SeenTurn) : Type 0 where
   pub count : length turns ≡ lanes script.lines
   pub in_order : (k : ℕ) → k < length turns → (turn_at turns k).lane ≡ k + 1
 
 -- the same, and nothing was entered yet
-abbrev pub AreFresh : Script → List Seen → Type 0
+abbrev pub AreFresh : Script → List SeenTurn → Type 0
 AreFresh script turns =
     AreAllTurns script turns × ((k : ℕ) → k < length turns → IsFresh (turn_at turns k))
 
 -- no line is being decided
-abbrev pub NoWorkIsOut : List Seen → Type 0
+abbrev pub NoWorkIsOut : List SeenTurn → Type 0
 NoWorkIsOut turns = (k : ℕ) → k < length turns → (turn_at turns k).numbers.out ≡ None
 
-abbrev pub HaveEnded : Script → List Seen → Type 0
+-- all lines of all lanes have ended
+abbrev pub HaveEnded : Script → List SeenTurn → Type 0
 HaveEnded script turns = (k : ℕ) → k < length turns → LaneHasEnded script (turn_at turns k)
 
 -- the journal has as many entries of each lane as the lane's turn has entered
-abbrev pub AreCounted : Script → List Entry → List Seen → Type 0
+abbrev pub AreCounted : Script → List Entry → List SeenTurn → Type 0
 AreCounted script journal turns =
     (k : ℕ) → k < length turns
     → entered_of script journal (k + 1) ≡ (turn_at turns k).numbers.entered

@@ -1,7 +1,7 @@
 //! Decisions of works, which need no lock.
 ghost use Rattle.std.specs.Prelude.{◌≡◌, Some, OnOk, OnErr};
 ghost use Rattle.cred_book.specs.Works.{IsWorkOf};
-ghost use Rattle.cred_kernel.specs.Deciding.{IsDue};
+ghost use Rattle.cred_kernel.specs.Deciding.{WasDecided};
 
 use crate::cells::KernelCells;
 use crate::gate::{Gate, Place};
@@ -44,7 +44,7 @@ pub fn decide<K: Name, G: Gate>(
 ) -> Result<(), NoMemory>
     requires out { turn.now.numbers.out ≡ Some work.old.line }
     requires work { IsWorkOf K.script K.infos K.cells work.old }
-    ensures decided { OnOk result (IsDue K.script K.infos K.cells work.old work.new) }
+    ensures decided { OnOk result (WasDecided K.script K.infos K.cells work.old work.new) }
     ensures same { OnErr result (work.new ≡ work.old) }
 {
     let lane = turn.lane();

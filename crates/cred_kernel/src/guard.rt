@@ -25,9 +25,9 @@ pub struct KernelGuard<'k, K: Name> {
 }
 
 impl<'k, K: Name> Model for KernelGuard<'k, K> {
-    ghost use Rattle.cred_kernel.specs.Turns.{Seen};
+    ghost use Rattle.cred_kernel.specs.Turns.{SeenTurn};
 
-    ghost Value = { Seen };
+    ghost Value = { SeenTurn };
 
     ghost view = { λ g. g.turn };
 }

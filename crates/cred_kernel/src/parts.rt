@@ -3,7 +3,7 @@ ghost use Rattle.std.specs.Prelude.{◌≡◌, ◌<◌, ℕ, [], None, IfOk, OnO
 ghost use Rattle.cred_book.specs.Book.{out_of};
 ghost use Rattle.cred_book.specs.Counts.{HasEntered};
 ghost use Rattle.cred_book.specs.Cursor.{BookStands, steps_left};
-ghost use Rattle.cred_book.specs.Works.{IsLanes};
+ghost use Rattle.cred_book.specs.Works.{IsOfLane};
 ghost use Rattle.cred_kernel.specs.Locks.{IsReadyBook};
 
 use cred_book::{Book, Step, Unfinished};
@@ -113,7 +113,7 @@ fn decide_and_enter(
 ) -> Result<(), NoMemory>
     requires own { book.old.words.id ≡ cells.now }
     requires stands { BookStands book.old }
-    requires lanes { IsLanes book.old lane work }
+    requires lanes { IsOfLane book.old lane work }
     ensures script { book.new.script ≡ book.old.script }
     ensures cells { book.new.words.id ≡ book.old.words.id }
     ensures stands { BookStands book.new }

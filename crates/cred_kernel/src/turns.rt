@@ -16,9 +16,9 @@ pub struct Turn<K: Name> {
 }
 
 impl<K: Name> Model for Turn<K> {
-    ghost use Rattle.cred_kernel.specs.Turns.{IsTurn, Seen};
+    ghost use Rattle.cred_kernel.specs.Turns.{IsTurn, SeenTurn};
 
-    ghost Value = { Seen };
+    ghost Value = { SeenTurn };
 
     ghost view = { λ t. record { lane = t.lane; numbers = t.numbers } };
 
@@ -49,9 +49,9 @@ pub struct TurnList<K: Name> {
 
 impl<K: Name> Model for TurnList<K> {
     ghost use Rattle.std.specs.Prelude.{List};
-    ghost use Rattle.cred_kernel.specs.Turns.{Seen};
+    ghost use Rattle.cred_kernel.specs.Turns.{SeenTurn};
 
-    ghost Value = { List Seen };
+    ghost Value = { List SeenTurn };
 
     ghost view = { λ t. t.turns.items };
 }

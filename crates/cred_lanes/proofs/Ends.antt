@@ -6,35 +6,35 @@ use Rattle.std.proofs.lemmas.List.{get_or_at}
 use Rattle.std.proofs.Math.ListN.{get_or-append}
 use Rattle.cred_model.specs.Script.{Script}
 use Rattle.cred_turn.specs.Rows.{fresh}
-use Rattle.cred_kernel.specs.Turns.{Seen, LaneHasEnded, turn_at}
+use Rattle.cred_kernel.specs.Turns.{SeenTurn, LaneHasEnded, turn_at}
 use Rattle.cred_lanes.specs.Works.{AllFinished}
 use mathlib.Core.Logic.{dite}
 use native.Mathlib.Decide.{ℕ_discrete}
 
 -- the first turns are those of the first lanes, which have ended
-abbrev pub EndedUpTo : Script → ℕ → List Seen → Type 0
+abbrev pub EndedUpTo : Script → ℕ → List SeenTurn → Type 0
 EndedUpTo script n turns =
     (k : ℕ) → k < n → ((turn_at turns k).lane ≡ k + 1) × LaneHasEnded script (turn_at turns k)
 
 -- one more worker has ended its lane
-pub ended_more : {E : Type 0} (script : Script) (done before after : List (Result Seen E))
-    (x : Result Seen E) (turn : Seen) (turns : List Seen)
+pub ended_more : {E : Type 0} (script : Script) (done before after : List (Result SeenTurn E))
+    (x : Result SeenTurn E) (turn : SeenTurn) (turns : List SeenTurn)
     → AllFinished script done → before ++ x ∷ after ≡ done → x ≡ Ok turn
     → length turns ≡ length before → EndedUpTo script (length before) turns
     → EndedUpTo script (length (before ++ x ∷ [])) (turns ++ turn ∷ [])
 ended_more {E} script done before after x turn turns each split is len up k h =
     let n : ℕ = length before in
-    let d : Seen = record { lane = 0; numbers = fresh } in
-    let P : ℕ → Seen → Type 0 = λ j t. (t.lane ≡ j + 1) × LaneHasEnded script t in
+    let d : SeenTurn = record { lane = 0; numbers = fresh } in
+    let P : ℕ → SeenTurn → Type 0 = λ j t. (t.lane ≡ j + 1) × LaneHasEnded script t in
     dite (ℕ_discrete k n)
     (λ (eq : k ≡ n).
     let at : get_or done n x ≡ x =
-    subst (λ (l : List (Result Seen E)). get_or l n x ≡ x) split
+    subst (λ (l : List (Result SeenTurn E)). get_or l n x ≡ x) split
     (get_or_at before x after x n refl) in
     let here : n < length done =
     omega (arith, sym (ap length split) ∙ length-append before (x ∷ after)) in
     let fact : P n turn =
-    subst (λ (r : Result Seen E). IfOk r (P n)) (at ∙ is) (each n x here) in
+    subst (λ (r : Result SeenTurn E). IfOk r (P n)) (at ∙ is) (each n x here) in
     subst (λ (j : ℕ). P j (turn_at (turns ++ turn ∷ []) j)) (sym eq)
     (subst (P n) (sym (get_or_at turns turn [] d n len)) fact))
     (λ (ne : k ≢ n).

@@ -4,35 +4,34 @@ use Rattle.std.specs.Prelude.{Some, None}
 use Rattle.atomic_table.specs.Seated.{TableId}
 use Rattle.cred_record.specs.File.{File}
 use Rattle.cred_model.specs.Script.{Script}
-use Rattle.cred_work.specs.Work.{Work}
 use Rattle.cred_book.specs.Works.{IsWorkOf}
 use Rattle.cred_book.specs.declared.step.Step.{Step}
 use Rattle.cred_book.specs.declared.step.Step.TheVariants.{More, Ended}
 use Rattle.cred_book.specs.declared.step.Step.TheVariants as step
-use Rattle.cred_kernel.specs.Deciding.{IsDue}
-use Rattle.cred_kernel.specs.Turns.{Seen, LaneHasEnded}
+use Rattle.cred_kernel.specs.Deciding.{WasDecided}
+use Rattle.cred_kernel.specs.Turns.{SeenTurn, LaneHasEnded}
 
 -- the turn of the same lane, which has ended
-abbrev pub Finished : Script → Seen → Seen → Type 0
+abbrev pub Finished : Script → SeenTurn → SeenTurn → Type 0
 Finished script turn done = (done.lane ≡ turn.lane) × LaneHasEnded script done
 
 -- of each lane from 1 on, in order, out of memory or its turn, which has ended
-abbrev pub AllFinished : {E : Type 0} → Script → List (Result Seen E) → Type 0
+abbrev pub AllFinished : {E : Type 0} → Script → List (Result SeenTurn E) → Type 0
 AllFinished {E} script done =
-    (k : ℕ) (d : Result Seen E) → k < length done
+    (k : ℕ) (d : Result SeenTurn E) → k < length done
     → IfOk (slice_index_or done k d) (λ turn. (turn.lane ≡ k + 1) × LaneHasEnded script turn)
 
 -- What a worker comes back to the lock with, by what its last step came to: the work of its lane
 -- that is out, which is decided, or nothing where none is out.
-abbrev pub IsReturn : Script → List File → TableId → Seen → Step → Type 0
+abbrev pub IsReturn : Script → List File → TableId → SeenTurn → Step → Type 0
 IsReturn script infos cells turn More = turn.numbers.out ≡ None
 IsReturn script infos cells turn (step.Work work) =
-    (turn.numbers.out ≡ Some work.line) × IsDue script infos cells work work
+    (turn.numbers.out ≡ Some work.line) × WasDecided script infos cells work work
 IsReturn script infos cells turn Ended = turn.numbers.out ≡ None
 
 -- How a worker leaves the lock: no work of its lane is out; or one is, and it has it; or its lane
 -- has ended.
-abbrev pub HasGoneOn : Script → List File → TableId → Seen → Seen → Step → Type 0
+abbrev pub HasGoneOn : Script → List File → TableId → SeenTurn → SeenTurn → Step → Type 0
 HasGoneOn script infos cells old new More = (new.lane ≡ old.lane) × (new.numbers.out ≡ None)
 HasGoneOn script infos cells old new (step.Work work) =
     (new.lane ≡ old.lane) × (new.numbers.out ≡ Some work.line) × IsWorkOf script infos cells work

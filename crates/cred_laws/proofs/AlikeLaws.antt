@@ -13,7 +13,7 @@ use Rattle.cred_event.specs.declared.entry.Entry.{Entry}
 use Rattle.cred_event.specs.declared.event.Event.TheVariants.{Begin, Act}
 use Rattle.cred_model.specs.Script.{Script}
 use Rattle.cred_model.specs.State.{State, Task, Broadcast, Numbered, broadcast_in, current_of}
-use Rattle.cred_model.specs.Casts.{is_open}
+use Rattle.cred_model.specs.Broadcasts.{is_open}
 use Rattle.cred_model.specs.Journal.{IsAnswered}
 use Rattle.cred_model.specs.Step.{step}
 use Rattle.cred_model.proofs.Lists.{found, slice_get_at}

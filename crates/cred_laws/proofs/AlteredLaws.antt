@@ -22,7 +22,7 @@ use Rattle.cred_event.specs.declared.event.Event.{Event}
 use Rattle.cred_event.specs.declared.event.Event.TheVariants.{Alter}
 use Rattle.cred_event.specs.Answers.{is_ok}
 use Rattle.cred_model.specs.Change.{Made, by_change, made_by_rule, made_by_exec}
-use Rattle.cred_model.specs.Moves.{relabelled, altered}
+use Rattle.cred_model.specs.Moves.{altered_at, altered}
 use Rattle.cred_model.specs.Named.{change_files}
 use Rattle.cred_model.specs.Script.{Script, chain_of}
 use Rattle.cred_model.specs.State.{State, SealedCred, Prepared, Changed, Numbered, numbered, prepared_of, info_of}
@@ -168,7 +168,7 @@ module _ (script : Script) (journal : List Entry) (k : ℕ) (entry : Entry) (is 
         → to.change ≡ change → is_ok entry.answer ≡ true
         → by_change (info_of s.infos (change_files to.change)) (chain_of script base.cred.ns) base.cred to.change
         ≡ Ok (record { answer = answer; cred = to.cred; gains = to.gains })
-        → (q : Prepared) → ((q.label == label) ≡ true → q ≡ p) → IsOf k s.creds q → IsOf (k + 1) s.creds (relabelled label to q)
+        → (q : Prepared) → ((q.label == label) ≡ true → q ≡ p) → IsOf k s.creds q → IsOf (k + 1) s.creds (altered_at label to q)
     altered_one p base to answer found at same ok so q one old =
         elim (q.label == label) as (λ b. (q.label == label) ≡ b → IsOf (k + 1) s.creds (cond b (record q { changed = Some to }) q)) [
           | true ↦ λ test.
@@ -203,7 +203,7 @@ module _ (script : Script) (journal : List Entry) (k : ℕ) (entry : Entry) (is 
         (λ refused denied answered. refused_all (ap is_ok (sym answered) ∙ denied))
         (λ m so ok answered.
         let to : Changed = record { change = change; cred = m.cred; gains = m.gains } in
-        All-map (IsOf (k + 1) s.creds) (relabelled label to) s.prepared (λ i d lt.
+        All-map (IsOf (k + 1) s.creds) (altered_at label to) s.prepared (λ i d lt.
         altered_one p base to m.answer found at refl (ap is_ok (sym answered) ∙ ok) so (get_or s.prepared i d) (the_one s label p sound found i d lt)
         (made i d lt)))))
 

@@ -16,7 +16,7 @@ use Rattle.cred_event.specs.declared.event.Event.TheVariants.{Begin, Act}
 use Rattle.cred_model.specs.Script.{Script}
 use Rattle.cred_model.specs.State.{State, Task, Broadcast, Numbered, numbered, task_of, broadcast_of, broadcast_in, current_of}
 use Rattle.cred_model.specs.Answers.{refusal}
-use Rattle.cred_model.specs.Casts.{others_of, with_broadcast, waits_no_more}
+use Rattle.cred_model.specs.Broadcasts.{others_of, with_broadcast, waits_no_more}
 use Rattle.cred_model.specs.Change.{by_rule}
 use Rattle.cred_model.specs.Ends.{is_beside}
 use Rattle.cred_model.specs.Dumpable.{differs, renewed}

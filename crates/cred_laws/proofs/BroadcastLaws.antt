@@ -15,7 +15,7 @@ use Rattle.cred_event.specs.declared.event.Event.{Event}
 use Rattle.cred_event.specs.declared.event.Event.TheVariants.{Begin, Act, Exit}
 use Rattle.cred_model.specs.Script.{Script}
 use Rattle.cred_model.specs.State.{State, Task, Broadcast, broadcast_of, broadcast_in, opening}
-use Rattle.cred_model.specs.Casts.{is_open, others_of}
+use Rattle.cred_model.specs.Broadcasts.{is_open, others_of}
 use Rattle.cred_model.specs.Ends.{survivors}
 use Rattle.cred_model.specs.Journal.{replay}
 use Rattle.cred_model.specs.Moves.{with_current}

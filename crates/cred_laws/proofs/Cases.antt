@@ -6,7 +6,7 @@ use Rattle.cred_event.specs.declared.answer.Answer.{Answer}
 use Rattle.cred_event.specs.declared.answer.Answer.TheVariants.{Busy, Overridden}
 use Rattle.cred_model.specs.State.{State, Task, Broadcast}
 use Rattle.cred_model.specs.Answers.{refusal}
-use Rattle.cred_model.specs.Casts.{not_busy}
+use Rattle.cred_model.specs.Broadcasts.{not_busy}
 use Rattle.cred_model.specs.Change.{by_rule}
 use Rattle.cred_model.specs.Moves.{none_or, not_overridden}
 use Rattle.cred_ids.specs.Tests.{◌>>=◌}

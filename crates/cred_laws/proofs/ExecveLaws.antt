@@ -23,7 +23,7 @@ use Rattle.cred_event.specs.declared.event.Event.TheVariants.{Commit}
 use Rattle.cred_model.specs.Script.{Script, chain_of}
 use Rattle.cred_model.specs.State.{State, SealedCred, Task, Broadcast, Prepared, Changed, ProcessFlag, Numbered, numbered, task_of, begun_by}
 use Rattle.cred_model.specs.Change.{Made, made_by_exec, made_by_execve, by_change}
-use Rattle.cred_model.specs.Casts.{dropped}
+use Rattle.cred_model.specs.Broadcasts.{dropped}
 use Rattle.cred_model.specs.Ends.{is_beside, survivors, ended}
 use Rattle.cred_model.specs.Dumpable.{flags_committed}
 use Rattle.cred_model.specs.Moves.{updated, with_current, committed, given_up}

@@ -11,7 +11,7 @@ use Rattle.std.proofs.lemmas.Bool.{cond_both, eqb-false, eqb-true}
 use Rattle.cred_ids.specs.Ordered.{in_order}
 use Rattle.cred_record.specs.Credential.{Credential}
 use Rattle.cred_model.specs.State.{SealedCred, Task, Broadcast}
-use Rattle.cred_model.specs.Casts.{waits_in, is_open, with_broadcast, without_waiter, waits_no_more, with_child, joined, dropped}
+use Rattle.cred_model.specs.Broadcasts.{waits_in, is_open, with_broadcast, without_waiter, waits_no_more, with_child, joined, dropped}
 use Rattle.cred_model.specs.Moves.{updated, with_current}
 use Rattle.cred_model.proofs.Lists.{Differ, find-map, found, found_none, none_found, or_left}
 use Rattle.cred_model.proofs.Numbers.{numbered_stays}

@@ -19,14 +19,14 @@ use Rattle.cred_event.specs.declared.event.Event.{Event}
 use Rattle.cred_event.specs.declared.event.Event.TheVariants.{Commit, Act}
 use Rattle.cred_model.specs.Script.{Script, chain_of}
 use Rattle.cred_model.specs.State.{State, SealedCred, Task, Broadcast, Prepared, Changed, Numbered, numbered, task_of, broadcast_of, broadcast_in, current_of}
-use Rattle.cred_model.specs.Casts.{dropped, is_open, waits_in, with_child}
+use Rattle.cred_model.specs.Broadcasts.{dropped, is_open, waits_in, with_child}
 use Rattle.cred_model.specs.Ends.{is_thread_of, survivors}
 use Rattle.cred_model.specs.Moves.{first_task, overriding, with_current}
 use Rattle.cred_model.specs.Step.{ends_with}
 use Rattle.cred_model.proofs.Lists.{All-at, All-kept, alone, found, found_none}
 use Rattle.cred_model.proofs.Numbers.{numbered_is, numbered_last, overriding_as, owner_number}
 use Rattle.cred_model.proofs.Rising.{All-passed, length-in_order}
-use Rattle.cred_sound.specs.Casts.{IsThread, IsUnderWay}
+use Rattle.cred_sound.specs.Broadcasts.{IsThread, IsUnderWay}
 use Rattle.cred_sound.specs.Sound.{IsSound}
 use Rattle.cred_sound.proofs.Parts.{sealed_cred, begun, broadcasts_left, TasksChange, Cause, Creation, Death, ByBegin, ByAct, ByRaw, ByCommit, BySpawn, ByFork}
 use Rattle.cred_sound.proofs.Parts.{ByExit, ByAbort, SameTasks, SetsFlag, Creates, Shares, Renews, Overrides, Fewer}

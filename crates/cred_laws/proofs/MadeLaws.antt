@@ -11,7 +11,7 @@ use Rattle.cred_event.specs.declared.entry.Entry.{Entry}
 use Rattle.cred_model.specs.Script.{Script}
 use Rattle.cred_model.specs.State.{State, SealedCred, Prepared, numbered, prepared_of, opening, info_of}
 use Rattle.cred_model.specs.Named.{change_files}
-use Rattle.cred_model.specs.Moves.{relabelled}
+use Rattle.cred_model.specs.Moves.{altered_at}
 use Rattle.cred_model.specs.Step.{step}
 use Rattle.cred_model.proofs.Lists.{All-remove, alone, found}
 use Rattle.cred_model.proofs.Numbers.{changed_as, numbered_is, numbered_before, sealed_cred_of}
@@ -57,7 +57,7 @@ all_made script s event left t sound creds (Alters label to p base answer prepar
     let lt = slice_get_within s.creds p.base (sealed_cred_of base) (numbered_is s.creds p.base base at).1 in
     let now = same_numbered s event left t creds p.base lt ∙ at in
     subst (All (IsMade script t.creds)) (sym prepared)
-    (All-map (IsMade script t.creds) (relabelled label to) s.prepared (λ k d lt.
+    (All-map (IsMade script t.creds) (altered_at label to) s.prepared (λ k d lt.
     changed_as (IsMade script t.creds) label to _
     (λ test.
     subst (λ found. IsChangedFrom script found to)

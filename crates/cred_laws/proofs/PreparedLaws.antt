@@ -8,7 +8,7 @@ use Rattle.cred_event.specs.declared.event.Event.TheVariants.{Commit, Abort, Ove
 use Rattle.cred_event.specs.declared.entry.Entry.{Entry}
 use Rattle.cred_model.specs.Script.{Script}
 use Rattle.cred_model.specs.State.{State, Prepared, Changed}
-use Rattle.cred_model.specs.Moves.{relabelled}
+use Rattle.cred_model.specs.Moves.{altered_at}
 use Rattle.cred_laws.specs.Held.{preparation_of, ends_label, PreparedStays}
 use Rattle.std.proofs.lemmas.Bool.{eqb-false}
 use Rattle.cred_model.proofs.Lists.{find_changed, find-remove_other}
@@ -29,7 +29,7 @@ first_stays (Some q) other p is = is
 
 -- a change leaves it
 change_leaves : (o : Option Prepared) (label : ℕ) (to : Changed)
-    → option_map fresh (option_map (relabelled label to) o) ≡ option_map fresh o
+    → option_map fresh (option_map (altered_at label to) o) ≡ option_map fresh o
 change_leaves None label to = refl
 change_leaves (Some q) label to = ap Some (changed_as (λ p. fresh p ≡ fresh q) label to q (λ test. refl) refl)
 
@@ -58,7 +58,7 @@ still_prepared script s event left t label p (Prepares new prepared unchanged un
     ∙ first_stays (find (λ (p : Prepared). p.label == label) s.prepared) _ p is
 still_prepared script s event left t label p (Alters altered to q base answer prepared found at so acts) is other =
     ap (λ ps. option_map fresh (find (λ (p : Prepared). p.label == label) ps)) prepared
-    ∙ ap (option_map fresh) (find_changed (λ (p : Prepared). p.label) (relabelled altered to) s.prepared label (changed_label altered to))
+    ∙ ap (option_map fresh) (find_changed (λ (p : Prepared). p.label) (altered_at altered to) s.prepared label (changed_label altered to))
     ∙ change_leaves (find (λ (p : Prepared). p.label == label) s.prepared) altered to ∙ is
 still_prepared script s event left t label p (Ends gone place q ended prepared at found) is other =
     ap (λ ps. option_map fresh (find (λ (p : Prepared). p.label == label) ps)) prepared

@@ -32,7 +32,7 @@ use Rattle.cred_model.specs.Script.{Script, chain_of, root_of, reaches}
 use Rattle.cred_model.specs.Named.{change_files}
 use Rattle.cred_model.specs.State.{State, Broadcast, Task, Numbered, numbered, task_of, broadcast_of, broadcast_in, begun_by, open_of, hold_of, prepared_of}
 use Rattle.cred_model.specs.State.{credential_of, opener_of, held_by, info_of}
-use Rattle.cred_model.specs.Casts.{not_busy, others_of, with_broadcast, waits_no_more}
+use Rattle.cred_model.specs.Broadcasts.{not_busy, others_of, with_broadcast, waits_no_more}
 use Rattle.cred_model.specs.Ends.{is_thread_of}
 use Rattle.cred_model.specs.Slots.{free, swept_if_full}
 use Rattle.cred_model.specs.Ptrace.{may_trace}

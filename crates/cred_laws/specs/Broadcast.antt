@@ -25,7 +25,7 @@ use Rattle.cred_model.specs.Script.{Script}
 use Rattle.cred_model.specs.State.{State, SealedCred, Task, Numbered, numbered, task_of}
 use Rattle.cred_model.specs.State.{broadcast_of}
 use Rattle.cred_model.specs.State.{broadcast_in}
-use Rattle.cred_model.specs.Casts.{waits_in}
+use Rattle.cred_model.specs.Broadcasts.{waits_in}
 use Rattle.cred_model.specs.Step.{step}
 use Rattle.cred_sound.specs.Sound.{IsSound}
 use Rattle.cred_laws.specs.Made.{AreMade}
@@ -62,7 +62,7 @@ HasNamed (SetGroups list) c = c.groups ≡ in_order list
 abbrev pub CurrentHas : (Credential → Type 0) → List SealedCred → Task → Type 0
 CurrentHas P creds t = (c : Numbered) × (numbered creds t.current ≡ Some c) × P c.cred
 
--- so it is with each live thread of the process
+-- the same of each live thread of the process
 abbrev pub AllHave : (Credential → Type 0) → State → ℕ → Type 0
 AllHave P s process = All (λ t. t.process ≡ process → CurrentHas P s.creds t) s.tasks
 
@@ -95,7 +95,7 @@ AreFollowed s =
     → CurrentHas (HasNamed broadcast.call) s.creds t)
     s.tasks)
 
--- So it stays over each event,
+-- Each event keeps it so,
 abbrev pub BroadcastsAreFollowed : Type 0
 BroadcastsAreFollowed =
     (script : Script) (s : State) (line : ℕ) (event : Event)

@@ -55,8 +55,8 @@ abbrev pub BoundingNeverGrows : Type 0
 BoundingNeverGrows =
     (c : Credential) (next : Made) → IsNext c next → IsWithin next.cred.bound c.bound
 
--- what a call may add to the permitted set: an execve what it says that it gained, and no other
--- call anything
+-- what a call may add to the permitted set: an execve what it says that it gained, and every other
+-- call nothing
 abbrev pub added : Call → Made → Caps
 added (Changes file chain (Exec place)) next =
     union next.gains.file (union next.gains.inherit next.gains.root)

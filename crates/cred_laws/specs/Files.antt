@@ -20,8 +20,8 @@ use Rattle.cred_model.specs.Step.{step}
 
 -- ---- a file changes by three calls alone
 
--- Where an event leaves a file otherwise than it was, it is chown(2), chmod(2), or setxattr(2) or
--- removexattr(2) of its attribute, on that file, and isn't refused.
+-- Where an event changes a file, it is chown(2), chmod(2), or setxattr(2) or removexattr(2) of its
+-- attribute, on that file, and isn't refused.
 abbrev pub FilesChangeByCalls : Type 0
 FilesChangeByCalls =
     (script : Script) (s : State) (line : ℕ) (event : Event) (place : ℕ) (old new : File)
@@ -36,7 +36,7 @@ pub record IsStripped (file : File) : Type 0 where
   pub attr : file.attr ≡ None
   pub mode : has_any file.mode SET_USER ≡ false
 
--- so it is with the file at a place
+-- this holds of the file at a place
 abbrev pub HasStripped : List File → ℕ → Type 0
 HasStripped infos place = IfSome (slice_get infos place) IsStripped
 
@@ -73,7 +73,8 @@ alters event label = false
 abbrev pub has_altered : ℕ → Entry → Bool
 has_altered label entry = alters entry.event label && is_ok entry.answer
 
--- Before entry `upto` the label was changed last by entry `at`: so, and not refused.
+-- Before entry `upto` the label was changed last by entry `at`, by this change, which wasn't
+-- refused.
 pub record IsLastChange (journal : List Entry) (upto label : ℕ) (change : Change) (at : ℕ)
     : Type 0 where
   pub before : at < upto

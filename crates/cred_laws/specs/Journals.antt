@@ -50,7 +50,7 @@ IsAlwaysSound script journal = (k : ℕ) → IsSound (state_at script journal k)
 abbrev pub IsAlwaysMade : Script → List Entry → Type 0
 IsAlwaysMade script journal = (k : ℕ) → AreMade script (state_at script journal k)
 
--- In each state the sets of each sealed credential are those of a credential.
+-- In each state the sets of each sealed credential are valid.
 abbrev pub IsAlwaysValid : Script → List Entry → Type 0
 IsAlwaysValid script journal = (k : ℕ) → AreValid (state_at script journal k)
 
@@ -134,8 +134,8 @@ ExecvesByTheRule script journal =
     (state_at script journal (k + 1)))
     × IsFileOf script journal k x.prepared.label (Exec x.place) (Some x.file))
 
--- A file changes only by an entry that is done of chown(2), chmod(2), or setxattr(2) or
--- removexattr(2) of its attribute, on that file.
+-- A file changes only by an entry of chown(2), chmod(2), or setxattr(2) or removexattr(2) of its
+-- attribute, on that file, that isn't refused.
 abbrev pub FilesStay : Script → List Entry → Type 0
 FilesStay script journal =
     (k place : ℕ) (old new : File)
@@ -144,9 +144,9 @@ FilesStay script journal =
     → IfSome (slice_get journal k) (λ entry.
     (changed_file entry.event ≡ Some place) × (entry.answer ≡ Done))
 
--- After an entry of chown(2) that is done, and gives an owner or a group to an executable regular
--- file, the file has no attribute and no set-user-ID bit, up to the next entry that sets its mode
--- or its attribute.
+-- After an entry of chown(2) that isn't refused, and gives an owner or a group to an executable
+-- regular file, the file has no attribute and no set-user-ID bit, up to the next entry that sets
+-- its mode or its attribute.
 abbrev pub ChownsStrip : Script → List Entry → Type 0
 ChownsStrip script journal =
     (k l place hold : ℕ) (owner group : Arg) (old : File) (entry : Entry) → k < l

@@ -24,21 +24,21 @@ IsMadeFrom From script found last =
 abbrev pub IsChangedFrom : Script → Option Numbered → Changed → Type 0
 IsChangedFrom script found last = IsMadeFrom (λ file. ⊤) script found last
 
--- so it is with a prepared credential, once it was changed
+-- the same of a prepared credential, once it was changed
 abbrev pub IsMade : Script → List SealedCred → Prepared → Type 0
 IsMade script creds p = IfSome p.changed (IsChangedFrom script (numbered creds p.base))
 
--- so it is with all that are prepared, where this holds of the file that each was changed with, by
+-- the same of all that are prepared, where `From` holds of the file that each was changed with, by
 -- its label and the change
 abbrev pub AreMadeFrom : (ℕ → Change → Option File → Type 0) → Script → State → Type 0
 AreMadeFrom From script s =
     All (λ p. IfSome p.changed (λ last.
     IsMadeFrom (From p.label last.change) script (numbered s.creds p.base) last)) s.prepared
 
--- so it is with all that are prepared
+-- the same of all that are prepared, with any files
 abbrev pub AreMade : Script → State → Type 0
 AreMade script s = All (IsMade script s.creds) s.prepared
 
--- so it is after every journal
+-- this holds after every journal
 abbrev pub PreparedAreMade : Type 0
 PreparedAreMade = (script : Script) (journal : List Entry) → AreMade script (replay script journal)

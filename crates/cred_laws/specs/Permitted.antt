@@ -12,15 +12,15 @@ use Rattle.cred_model.specs.Step.{step}
 use Rattle.cred_sound.specs.Sound.{IsSound}
 use Rattle.cred_laws.specs.Made.{AreMade}
 
--- From a task's current credential before an event that answers so to the one after it: where that
--- is another one, it permits nothing more than the old one but what the answer says was gained.
--- Where it has the number of the old one, it is the old one, in its slot.
+-- A task's current credential before and after an event with this answer. Where they have one
+-- number they are the same, in the same slot. Where they don't, what the new one permits and the
+-- old one didn't is just what the answer says was gained.
 pub record GainsBy (answer : Answer) (before after : Numbered) : Type 0 where
   pub same : after.number ≡ before.number → after ≡ before
   pub other : after.number ≢ before.number
       → less after.cred.perm before.cred.perm ≡ gain_told answer
 
--- So it is with each task that is alive before and after an event, in a sound state where each
+-- This holds of each task that is alive before and after an event, in a sound state where each
 -- prepared credential is what its change makes of its base.
 abbrev pub PermittedGains : Type 0
 PermittedGains =

@@ -1,5 +1,5 @@
--- Who may look into whom without CAP_SYS_PTRACE, and which processes nobody may look into so
--- (ptrace(2), "Ptrace access mode checking"; prctl(2), PR_SET_DUMPABLE).
+-- Who may look into whom without CAP_SYS_PTRACE, and into which processes nobody may (ptrace(2),
+-- "Ptrace access mode checking"; prctl(2), PR_SET_DUMPABLE).
 use Rattle.std.specs.Prelude.{◌≡◌, ◌≢◌, ℕ, true, false, Some, find, is_some}
 use Rattle.std.specs.Option.{option_map}
 use Rattle.cred_ids.specs.declared.id.Ids4.{Ids4}

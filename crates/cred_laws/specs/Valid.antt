@@ -1,4 +1,4 @@
--- The sets of each sealed credential are those of a credential.
+-- The sets of each sealed credential are valid.
 use Rattle.std.specs.Prelude.{List, All}
 use Rattle.cred_record.specs.Credential.{Credential, AreValidSets}
 use Rattle.cred_event.specs.declared.entry.Entry.{Entry}
@@ -11,10 +11,10 @@ use Rattle.cred_model.specs.Journal.{replay}
 abbrev pub IsValid : Credential → Type 0
 IsValid c = AreValidSets c.perm c.inh c.eff c.amb
 
--- so it is with all that were sealed
+-- this holds of all that were sealed
 abbrev pub AreValid : State → Type 0
 AreValid s = All (λ sealed. IsValid sealed.cred) s.creds
 
--- so it is after every journal
+-- this holds after every journal
 abbrev pub SealedAreValid : Type 0
 SealedAreValid = (script : Script) (journal : List Entry) → AreValid (replay script journal)

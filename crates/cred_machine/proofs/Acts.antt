@@ -10,7 +10,7 @@ use Rattle.cred_event.specs.declared.answer.AbortCause.TheVariants.{Perm, Full}
 use Rattle.cred_event.specs.declared.answer.Answer.{Answer}
 use Rattle.cred_event.specs.declared.answer.Answer.TheVariants.{Acted, Aborted}
 use Rattle.cred_model.specs.State.{State, Task, Broadcast, Numbered, numbered, broadcast_of, task_of}
-use Rattle.cred_model.specs.Casts.{waits_no_more}
+use Rattle.cred_model.specs.Broadcasts.{waits_no_more}
 use Rattle.cred_model.specs.Dumpable.{differs, renewed}
 use Rattle.cred_model.specs.Moves.{in_slot, replaced}
 use Rattle.cred_model.specs.Slots.{free, least_free, swept}

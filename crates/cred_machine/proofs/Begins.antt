@@ -15,7 +15,7 @@ use Rattle.cred_event.specs.declared.answer.Answer.{Answer}
 use Rattle.cred_event.specs.declared.answer.Answer.TheVariants.{Began, Eperm, Einval}
 use Rattle.cred_model.specs.State.{State, Task, Broadcast, ProcessFlag, Numbered, numbered, task_of, broadcast_in}
 use Rattle.cred_model.specs.Dumpable.{differs, renewed}
-use Rattle.cred_model.specs.Casts.{not_busy, others_of, with_broadcast}
+use Rattle.cred_model.specs.Broadcasts.{not_busy, others_of, with_broadcast}
 use Rattle.cred_model.specs.Moves.{in_slot, not_overridden, replaced, table_full}
 use Rattle.cred_model.specs.Slots.{free, least_free}
 use Rattle.cred_model.specs.Step.{by_begin, outcome}

@@ -10,7 +10,7 @@ use Rattle.cred_event.specs.declared.answer.Answer.{Answer}
 use Rattle.cred_event.specs.declared.answer.Answer.TheVariants.{Stale}
 use Rattle.cred_model.specs.State.{State, Broadcast, Changed, Prepared, ProcessFlag, SealedCred, Task, begun_by, numbered, task_of}
 use Rattle.cred_model.specs.Dumpable.{differs, flags_by, flags_committed}
-use Rattle.cred_model.specs.Casts.{not_busy, broadcasts_left}
+use Rattle.cred_model.specs.Broadcasts.{not_busy, broadcasts_left}
 use Rattle.cred_model.specs.Ends.{left_by, survivors}
 use Rattle.cred_model.specs.Moves.{given_up, not_overridden, with_current}
 use Rattle.cred_model.specs.Step.{by_commit, committed_by, for_task, outcome, try_commit}

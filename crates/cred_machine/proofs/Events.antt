@@ -7,7 +7,7 @@ use Rattle.cred_event.specs.declared.answer.Answer.TheVariants.{Done, Kept, Seal
 use Rattle.cred_model.specs.State.{State, Broadcast, Changed, Hold, Prepared, Task, Numbered, begun_by, broadcast_in, broadcast_of, hold_of, numbered}
 use Rattle.cred_model.specs.State.{prepared_of}
 use Rattle.cred_model.specs.State.{task_of}
-use Rattle.cred_model.specs.Casts.{joined, not_busy, waits_no_more, others_of}
+use Rattle.cred_model.specs.Broadcasts.{joined, not_busy, waits_no_more, others_of}
 use Rattle.cred_model.specs.Dumpable.{differs, flags_begun, flags_left, is_dumpable, with_process_flag}
 use Rattle.cred_model.specs.Ends.{is_task, is_thread_of, left_by, survivors}
 use Rattle.cred_model.specs.Moves.{created, first_task, in_slot, not_overridden, preparing, table_full}

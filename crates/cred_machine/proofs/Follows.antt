@@ -7,7 +7,7 @@ use Rattle.cred_event.specs.declared.answer.AbortCause.{AbortCause}
 use Rattle.cred_event.specs.declared.answer.Answer.{Answer}
 use Rattle.cred_event.specs.declared.answer.Answer.TheVariants.{Aborted, Acted, NoBroadcast}
 use Rattle.cred_model.specs.State.{State, Task, Broadcast, ProcessFlag, Numbered, broadcast_of, task_of, numbered}
-use Rattle.cred_model.specs.Casts.{waits_no_more}
+use Rattle.cred_model.specs.Broadcasts.{waits_no_more}
 use Rattle.cred_model.specs.Dumpable.{differs, renewed}
 use Rattle.cred_model.specs.Moves.{replaced, at_abort}
 use Rattle.cred_model.specs.Slots.{free, least_free}

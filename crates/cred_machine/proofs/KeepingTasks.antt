@@ -10,7 +10,7 @@ use Rattle.cred_event.specs.declared.answer.Answer.{Answer}
 use Rattle.cred_event.specs.declared.answer.Answer.TheVariants.{Done, Sealed, Stale}
 use Rattle.cred_event.specs.declared.event.Change.{Change}
 use Rattle.cred_event.specs.declared.event.Change.TheVariants.{Exec, SetFs, Adjust, Access}
-use Rattle.cred_model.specs.Casts.{dropped}
+use Rattle.cred_model.specs.Broadcasts.{dropped}
 use Rattle.cred_model.specs.Dumpable.{flags_committed}
 use Rattle.cred_model.specs.Ends.{ended, left_by, survivors}
 use Rattle.cred_model.specs.Moves.{committed, created, first_task, given_up, with_override, overridden, overriding, replaced, updated, with_current}

@@ -6,7 +6,7 @@ use Rattle.std.proofs.lemmas.Bool.{eqb-true}
 use Rattle.std.proofs.lemmas.List.Elements.{All-cons, All-head, All-nil, All-tail, All-weaker}
 use Rattle.cred_model.specs.State.{Task, Prepared, Changed}
 use Rattle.cred_model.specs.Ends.{left_by, numbers_of, survivors}
-use Rattle.cred_model.specs.Moves.{relabelled, overriding, updated, with_change, with_current, with_overrides}
+use Rattle.cred_model.specs.Moves.{altered_at, overriding, updated, with_change, with_current, with_overrides}
 use Rattle.cred_model.proofs.Lists.{All-right, All-unflat_map, All-unmap, alone, found}
 use Rattle.cred_model.proofs.Numbers.{changed_as, overriding_as, updated_as}
 
@@ -114,5 +114,5 @@ overrides_ended H ends tasks on left =
 pub bases_before : (H : ℕ → Type 0) (label : ℕ) (to : Changed) (prepared : List Prepared) → All (λ p. H p.base) (with_change prepared label to)
     → All (λ p. H p.base) prepared
 bases_before H label to prepared each =
-    back (λ (p : Prepared). H p.base) (λ p. H p.base) (relabelled label to) prepared
+    back (λ (p : Prepared). H p.base) (λ p. H p.base) (altered_at label to) prepared
     (λ p now. subst H (changed_as (λ q. q.base ≡ p.base) label to p (λ test. refl) refl) now) each

@@ -10,7 +10,7 @@ use Rattle.cred_model.specs.State.{State, Broadcast, Hold, Prepared, SealedCred,
 use Rattle.cred_model.specs.State.{prepared_of}
 use Rattle.cred_model.specs.State.{task_of}
 use Rattle.cred_model.specs.Slots.{free, least_free, swept}
-use Rattle.cred_model.specs.Casts.{dropped, joined, not_busy, waits_no_more}
+use Rattle.cred_model.specs.Broadcasts.{dropped, joined, not_busy, waits_no_more}
 use Rattle.cred_model.specs.Dumpable.{flags_begun, is_dumpable, with_process_flag, without_flag}
 use Rattle.cred_model.specs.Ends.{is_task, is_thread_of, left_by, survivors}
 use Rattle.cred_model.specs.Moves.{created, preparing, first_task, not_overridden, table_full, at_abort}

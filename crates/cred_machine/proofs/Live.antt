@@ -12,7 +12,7 @@ use Rattle.cred_rules.specs.SetId.{set_id}
 use Rattle.cred_event.specs.declared.answer.Answer.{Answer}
 use Rattle.cred_event.specs.declared.answer.AbortCause.TheVariants.{Perm, Full}
 use Rattle.cred_event.specs.declared.answer.Answer.TheVariants.{Aborted, Acted, NoBroadcast}
-use Rattle.cred_model.specs.Casts.{waits_no_more}
+use Rattle.cred_model.specs.Broadcasts.{waits_no_more}
 use Rattle.cred_model.specs.Dumpable.{differs, renewed}
 use Rattle.cred_model.specs.State.{State, SealedCred, Prepared, ProcessFlag, Task, Broadcast, Numbered, broadcast_of, numbered, task_of}
 use Rattle.cred_model.specs.Change.{by_rule}

@@ -20,7 +20,7 @@ use Rattle.cred_event.specs.declared.event.Event.TheVariants.{Begin, Act, OpenFi
 use Rattle.cred_event.specs.declared.event.Event.TheVariants.{SetAttr, Stat, Raw}
 use Rattle.cred_event.specs.declared.event.Mode.{Mode}
 use Rattle.cred_model.specs.Answers.{checked}
-use Rattle.cred_model.specs.Casts.{dropped, joined, others_of, waits_no_more, with_broadcast}
+use Rattle.cred_model.specs.Broadcasts.{dropped, joined, others_of, waits_no_more, with_broadcast}
 use Rattle.cred_model.specs.Change.{by_change, by_rule}
 use Rattle.cred_model.specs.FileChanges.{changed_by}
 use Rattle.cred_model.specs.Dumpable.{differs, flag_of_value, flags_begun, flags_left, is_dumpable, renewed, set_flag, with_process_flag, without_flag}

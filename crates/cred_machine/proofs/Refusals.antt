@@ -7,7 +7,7 @@ use Rattle.cred_rules.specs.Access.{may_signal}
 use Rattle.cred_event.specs.declared.answer.Counted.TheVariants as counted
 use Rattle.cred_event.specs.declared.answer.Named.TheVariants as named
 use Rattle.cred_model.specs.State.{State, Task, Numbered, begun_by, held_by, numbered, task_of}
-use Rattle.cred_model.specs.Casts.{not_busy}
+use Rattle.cred_model.specs.Broadcasts.{not_busy}
 use Rattle.cred_model.specs.Ends.{is_thread_of}
 use Rattle.cred_model.specs.Moves.{not_overridden}
 use Rattle.cred_model.specs.Step.{by_exit, by_fork, by_prepare, by_ptrace, by_signal, by_spawn, outcome}

@@ -7,13 +7,13 @@ use Rattle.cred_record.specs.Credential.{Credential}
 use Rattle.cred_rules.specs.SetId.{set_id}
 use Rattle.cred_event.specs.declared.answer.Answer.TheVariants.{Acted}
 use Rattle.cred_model.specs.State.{State, Task, Broadcast, ProcessFlag, Numbered, numbered, task_of}
-use Rattle.cred_model.specs.Casts.{waits_no_more}
+use Rattle.cred_model.specs.Broadcasts.{waits_no_more}
 use Rattle.cred_model.specs.Dumpable.{differs, renewed}
 use Rattle.cred_model.specs.Moves.{replaced, with_current}
 use Rattle.cred_model.specs.Slots.{free, least_free}
 use Rattle.cred_model.specs.Step.{by_act, outcome}
 use Rattle.cred_sound.specs.Sound.{IsSound}
-use Rattle.cred_plain.specs.Casts.{AreWaitedFor}
+use Rattle.cred_plain.specs.Broadcasts.{AreWaitedFor}
 use Rattle.cred_plain.specs.Tasks.{IsTaskAt}
 use Rattle.cred_plain.proofs.Stands.{there}
 use Rattle.cred_machine.specs.Room.{IsCurrentOf, sealed_for, swept_if}

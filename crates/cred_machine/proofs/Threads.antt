@@ -2,12 +2,12 @@
 use Rattle.std.proofs.Common.{◌≡◌, ◌==◌, ℕ, ◌<◌, List, get_or, Some, true, false, refl, arith}
 use Rattle.std.specs.List.{AllPairs}
 use Rattle.cred_model.specs.State.{State, Task, Broadcast, broadcast_of}
-use Rattle.cred_model.specs.Casts.{waits_in, SharesNone}
+use Rattle.cred_model.specs.Broadcasts.{waits_in, SharesNone}
 use Rattle.cred_model.proofs.Lists.{found}
-use Rattle.cred_sound.specs.Casts.{IsThread, IsUnderWay}
+use Rattle.cred_sound.specs.Broadcasts.{IsThread, IsUnderWay}
 use Rattle.cred_sound.specs.Sound.{IsSound}
 use Rattle.cred_sound.proofs.Threads.{one_process, waits_at}
-use Rattle.cred_plain.specs.Casts.{AreWaitedFor}
+use Rattle.cred_plain.specs.Broadcasts.{AreWaitedFor}
 
 -- who waits in a broadcast is a thread of its process
 thread_of : (tasks : List Task) (broadcast : Broadcast) (task : ℕ) → IsUnderWay tasks broadcast → waits_in task broadcast ≡ true

@@ -10,16 +10,17 @@ use Rattle.cred_model.specs.Slots.{refs}
 use Rattle.cred_plain.specs.Creds.{gone}
 use Rattle.cred_plain.specs.References.{is_among}
 
--- Each credential to which nothing refers is forgotten: under its number stands what stands for all
--- of those. One that equals that looks the same, kept or not.
+-- Each credential to which nothing refers is forgotten: under its number stands `gone`, as under
+-- every such number. A credential that equals it looks forgotten, whether or not it is.
 abbrev pub KeepsReferred : State → Type 0
 KeepsReferred s =
     (n : ℕ) → is_among (refs s) n ≡ false
     → IfSome (slice_get s.creds n) (λ sealed. sealed.cred ≡ gone)
 
--- Whether a sweep may have dropped something, with an event that answered so: then fewer numbers
--- are given up after it than were before it and were by it. A call gives up one number, the thread
--- that couldn't follow since no slot was free has swept, and no other answer needs any given up.
+-- Whether a sweep may have dropped something, by an event with this answer: then fewer numbers
+-- stand as given up after it than did before it, with those that it gave up itself. A call gives up
+-- one number, the thread that couldn't follow since no slot was free has swept, and no other answer
+-- says that any was given up.
 abbrev pub may_have_swept : ℕ → Answer → ℕ → Bool
 may_have_swept before (Began cred slot left) after = not (nat_lt before after)
 may_have_swept before (Acted task cred slot left) after = not (nat_lt before after)

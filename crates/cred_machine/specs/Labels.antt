@@ -4,7 +4,8 @@ use Rattle.cred_event.specs.declared.answer.Answer.{Answer}
 use Rattle.cred_model.specs.State.{State, Task, Prepared, Changed, task_of}
 use Rattle.cred_model.specs.Step.{try_commit}
 
--- The label at this place prepares a credential for a task that is alive, and was changed last so.
+-- The label at this place prepares a credential for a task that is alive, and this was its last
+-- change.
 pub record IsChanged
     (s : State) (place : ℕ) (p : Prepared) (owner : Task) (last : Changed)
     : Type 0 where

@@ -6,7 +6,7 @@ use Rattle.cred_event.specs.declared.answer.Answer.{Answer}
 use Rattle.cred_event.specs.declared.answer.Answer.TheVariants.{Began, Sealed}
 use Rattle.cred_model.specs.State.{State, Broadcast, task_of}
 use Rattle.cred_model.specs.Slots.{swept}
-use Rattle.cred_model.specs.Casts.{with_broadcast}
+use Rattle.cred_model.specs.Broadcasts.{with_broadcast}
 use Rattle.cred_model.specs.Dumpable.{renewed}
 use Rattle.cred_model.specs.Moves.{replaced, sealed}
 
@@ -23,8 +23,8 @@ abbrev pub sealed_for : State → ℕ → Credential → ℕ → State
 sealed_for s old c slot =
     let now = sealed s c slot in record now { deferred = s.deferred ++ old ∷ [] }
 
--- What a call answers whose credential takes this slot, and the state after it, where an effective
--- or a filesystem id of that is another one, or isn't.
+-- What a call answers whose new credential takes this slot, and the state after it. `other` says
+-- whether the old and the new credential differ in an effective or a filesystem id.
 abbrev pub begun : State → Broadcast → ℕ → Credential → Bool → ℕ → Answer × State
 begun s broadcast old made other slot = (
   Began (length s.creds) slot (length broadcast.waiting),

@@ -47,7 +47,7 @@ abbrev pub HasTaken : List Bool → ℕ → List Bool → Type 0
 HasTaken before taken after = (slot : ℕ) → slot < SLOTS
     → is_marked after slot ≡ (is_marked before slot || (taken == slot))
 
--- A step that answered so took its slot: the marks after it have that one too.
+-- A step with this answer took its slot: the marks after it have that one too.
 pub record TakesSlot (before : List Bool) (answer : Answer) (after : List Bool) : Type 0 where
   pub task : ℕ
   pub cred : ℕ

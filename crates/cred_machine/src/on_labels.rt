@@ -4,7 +4,7 @@ ghost use Rattle.cred_model.specs.Like.{Gives};
 ghost use Rattle.cred_model.specs.Step.{by_abort, by_alter, by_ask, by_commit, by_prepare};
 ghost use Rattle.cred_model.specs.Step.{by_release, by_signal, by_take, take_hold};
 ghost use Rattle.cred_model.specs.Moves.{given_up};
-ghost use Rattle.cred_model.specs.Casts.{broadcasts_left};
+ghost use Rattle.cred_model.specs.Broadcasts.{broadcasts_left};
 ghost use Rattle.cred_model.specs.State.{numbered_in};
 ghost use Rattle.cred_sound.specs.Sound.{IsSound};
 ghost use Rattle.cred_machine.specs.Labels.{CanCommit, Commits};

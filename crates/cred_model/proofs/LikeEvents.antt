@@ -41,7 +41,7 @@ use Rattle.cred_model.specs.Dumpable.{flags_left, flag_of_value}
 use Rattle.cred_model.specs.Answers.{checked}
 use Rattle.cred_model.specs.Change.{by_change, by_rule}
 use Rattle.cred_model.specs.Ends.{is_task, is_thread_of, ended}
-use Rattle.cred_model.specs.Casts.{not_busy, others_of, with_broadcast, waits_no_more, joined, dropped}
+use Rattle.cred_model.specs.Broadcasts.{not_busy, others_of, with_broadcast, waits_no_more, joined, dropped}
 use Rattle.cred_model.specs.Moves.{none_or, fewer_or, unless_refused, not_overridden, table_full}
 use Rattle.cred_model.specs.Moves.{first_task, with_overrides, holding, with_override, with_current, given_up, committed, altered, preparing, created, replaced}
 use Rattle.cred_model.specs.Step.{try_commit, done, ends_with, broadcasts_after, commit_answer, aborted, follow, take_hold, for_task, for_access, override_held}

@@ -6,7 +6,7 @@ use Rattle.std.proofs.lemmas.Bool.{cond_both}
 use Rattle.std.proofs.lemmas.Bool.Decides.{nat_tests}
 use Rattle.std.proofs.lemmas.Option.{slice_get_within}
 use Rattle.cred_model.specs.State.{State, SealedCred, Task, Prepared, Changed, Numbered, numbered, task_of, current_of}
-use Rattle.cred_model.specs.Moves.{updated, with_current, overriding, with_overrides, relabelled}
+use Rattle.cred_model.specs.Moves.{updated, with_current, overriding, with_overrides, altered_at}
 use Rattle.cred_model.proofs.Lists.{find_changed, found, slice_get-left, slice_get-last}
 
 abbrev under : ℕ → SealedCred → Numbered
@@ -108,9 +108,9 @@ overriding_task tasks acting numbers task =
 -- ---- the prepared labels, where one has another change
 
 pub changed_as : (Q : Prepared → Type 0) (label : ℕ) (to : Changed) (p : Prepared)
-    → ((p.label == label) ≡ true → Q (record p { changed = Some to })) → Q p → Q (relabelled label to p)
+    → ((p.label == label) ≡ true → Q (record p { changed = Some to })) → Q p → Q (altered_at label to p)
 changed_as Q label to p new old =
     cond_both (p.label == label) (record p { changed = Some to }) p Q new (λ other. old)
 
-pub changed_label : (label : ℕ) (to : Changed) (p : Prepared) → (relabelled label to p).label ≡ p.label
+pub changed_label : (label : ℕ) (to : Changed) (p : Prepared) → (altered_at label to p).label ≡ p.label
 changed_label label to p = changed_as (λ q. q.label ≡ p.label) label to p (λ test. refl) refl

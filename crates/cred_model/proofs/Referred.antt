@@ -9,7 +9,7 @@ use Rattle.cred_event.specs.declared.event.Side.TheVariants.{Subjective, Objecti
 use Rattle.cred_model.specs.State.{State, number_on, Task, Broadcast, OpenFile, Hold, Prepared, Changed, ProcessFlag}
 use Rattle.cred_model.specs.Slots.{places, in_use, refs}
 use Rattle.cred_model.specs.Ends.{numbers_of, survivors, left_by, ended}
-use Rattle.cred_model.specs.Moves.{updated, with_current, overriding, with_overrides, relabelled, with_change}
+use Rattle.cred_model.specs.Moves.{updated, with_current, overriding, with_overrides, altered_at, with_change}
 use Rattle.cred_model.proofs.Lists.{All-kept, All-left, All-right, All-unmap, All-flat_map, All-unflat_map}
 use Rattle.cred_model.proofs.Numbers.{updated_as, overriding_as}
 
@@ -173,7 +173,7 @@ pub each_changed : {P : ℕ → Type 0} {s : State} → EachRef P s → (label :
     → EachRef P (record s { prepared = with_change s.prepared label to })
 each_changed {P} {s} each label to =
     each_prepared each (with_change s.prepared label to)
-    (All-kept (λ (p : Prepared). P p.base) (relabelled label to) s.prepared
+    (All-kept (λ (p : Prepared). P p.base) (altered_at label to) s.prepared
     (λ p old. elim (p.label == label) as (λ b. P (cond b (record p { changed = Some to }) p).base) [ true ↦ old | false ↦ old ]) each.bases)
 
 pub each_deferred : {P : ℕ → Type 0} {s : State} → EachRef P s → (numbers : List ℕ) → All P numbers

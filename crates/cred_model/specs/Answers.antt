@@ -1,4 +1,4 @@
--- What a rule and a question answer.
+-- The answer that reports a rule's refusal, and the answers to questions.
 use Rattle.std.specs.Prelude.{Bool, Some, None, if◌then◌else◌}
 use Rattle.std.specs.declared.option.Option.{Option}
 use Rattle.cred_record.specs.Credential.{Credential}
@@ -25,7 +25,7 @@ abbrev pub flag : Option Bool → Answer
 flag None = answer.Einval
 flag (Some is) = answer.Told (told.Flag is)
 
--- the answer to a check of a file; there always is one, since a question names a declared file
+-- the answer to a check of a file; there always is a file, since a question names a declared one
 abbrev pub checked : Credential → Option File → Want → Answer
 checked c None asked = answer.Eacces
 checked c (Some file) asked = if may c file asked then answer.Done else answer.Eacces

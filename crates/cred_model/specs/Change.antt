@@ -28,6 +28,7 @@ pub record Made : Type 0 where
 abbrev pub no_gains : Gains
 no_gains = record { file = empty; inherit = empty; root = empty }
 
+-- a change that gains nothing
 abbrev pub made : Answer → Credential → Made
 made answer c = record { answer = answer; cred = c; gains = no_gains }
 
@@ -36,6 +37,7 @@ abbrev pub by_rule : {X : Type 0} → Result X Denial → Result X Answer
 by_rule (Ok c) = Ok c
 by_rule (Err denial) = Err (refusal denial)
 
+-- the same, as what a change makes
 abbrev pub made_by_rule : Result Credential Denial → Result Made Answer
 made_by_rule (Ok c) = Ok (made answer.Done c)
 made_by_rule (Err denial) = Err (refusal denial)
@@ -46,18 +48,19 @@ exec_refusal MayNotExecute = answer.Eacces
 exec_refusal SpellsNothing = answer.Einval
 exec_refusal GivesTooLittle = answer.Eperm
 
+-- what the rule of execve gives, or the manual's error
 abbrev pub made_by_exec : Result Executed NoExec → Result Made Answer
 made_by_exec (Ok e) = Ok (record { answer = answer.Done; cred = e.cred; gains = e.gains })
 made_by_exec (Err why) = Err (exec_refusal why)
 
--- what the execve of a file makes; there always is one, since a change names a declared file
+-- what the execve of a file makes; there always is a file, since a change names a declared one
 abbrev pub made_by_execve : Option File → List ℕ → Credential → Result Made Answer
 made_by_execve None chain c = Err answer.Eacces
 made_by_execve (Some file) chain c = made_by_exec (exec c file chain)
 
 -- What a change makes of a base credential, or its refusal. It sees the file that it names, if any,
--- and the root ids of the base's namespace and of that one's ancestors. That of access(2) is never
--- refused.
+-- and the root ids of the base's namespace and of that one's ancestors. The change of access(2) is
+-- never refused.
 abbrev pub by_change : Option File → List ℕ → Credential → Change → Result Made Answer
 by_change file chain c (SetFs kind id) = Ok (made (answer.Was (old_fs c kind)) (set_fs c kind id))
 by_change file chain c (Adjust call) = made_by_rule (adjust c call)

@@ -250,7 +250,7 @@ is_bounded content = true
 abbrev pub leads : ℕ → Content → List Answer → Course
 leads line content answers = fold (after content) (start line content) answers
 
--- It is how far its line, with this content, comes after some answers.
+-- The course is how far its line, with this content, comes after some answers.
 pub record Leads (content : Content) (course : Course) : Type 0 where
   pub answers : List Answer
   pub is : course ≡ leads course.line content answers

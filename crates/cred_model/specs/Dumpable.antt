@@ -31,6 +31,7 @@ with_process_flag flags process dumpable =
 abbrev pub flagged : ℕ → Bool → ProcessFlag → ProcessFlag
 flagged process dumpable f = if f.process == process then record f { dumpable = dumpable } else f
 
+-- the flags, where the process has this one from now on
 abbrev pub set_flag : List ProcessFlag → ℕ → Bool → List ProcessFlag
 set_flag flags process dumpable = map (flagged process dumpable) flags
 
@@ -40,13 +41,14 @@ without_flag flags process = filter (λ f. not (f.process == process)) flags
 
 -- ---- when a process stops being dumpable
 
--- An effective or a filesystem id is another one, of the user or of the group.
+-- The two credentials differ in an effective or a filesystem id, of the user or of the group.
 abbrev pub differs : Credential → Credential → Bool
 differs old new =
     not ((old.uid.effective == new.uid.effective) && (old.uid.fs == new.uid.fs)
     && (old.gid.effective == new.gid.effective) && (old.gid.fs == new.gid.fs))
 
--- The process of a task whose new credential differs so from its old one is dumpable no longer.
+-- The flags after a task's credential was replaced: where the old and the new one differ (`other`),
+-- its process is dumpable no longer.
 abbrev pub renewed : List ProcessFlag → ℕ → Bool → List ProcessFlag
 renewed flags process other = if other then set_flag flags process false else flags
 
@@ -62,25 +64,27 @@ flags_by (Exec file) gains flags process other =
     set_flag flags process (not other && not (is_gain gains))
 flags_by change gains flags process other = renewed flags process other
 
--- what the task's current credential differs in from the one that is committed in its place
+-- whether the task's current credential differs in such an id from the one that is committed in its
+-- place
 abbrev pub differs_by : State → Task → Changed → Bool
 differs_by s owner last =
     option_map_or (λ old. differs old.cred last.cred) (numbered s.creds owner.current) false
 
+-- the flags after that commit
 abbrev pub flags_committed : State → Task → Changed → List ProcessFlag
 flags_committed s owner last =
     flags_by last.change last.gains s.dumpable owner.process (differs_by s owner last)
 
 -- ---- when a process begins and ends
 
--- A first task of a process that has no threads begins it, dumpable; one thread more leaves the
--- flag.
+-- A first task of a process that has no threads begins the process, dumpable. One thread more
+-- leaves the flag as it is.
 abbrev pub flags_begun : State → ℕ → List ProcessFlag
 flags_begun s process =
     if is_some (find (is_thread_of process) s.tasks) then s.dumpable
     else with_process_flag s.dumpable process true
 
--- The task has ended. If it was the last of its process, that one has ended too.
+-- The task has ended. If it was the last of its process, the process has ended too.
 abbrev pub flags_left : State → Task → List ProcessFlag
 flags_left s owner =
     if is_some (find (is_beside owner) s.tasks) then s.dumpable

@@ -46,6 +46,6 @@ line_changes content = false
 abbrev pub ChangesInSetup : Line → Type 0
 ChangesInSetup line = line_changes line.content ≡ true → line.lane ≡ 0
 
--- So are all of them. Once the setup has ended the files stay as they are.
+-- All lines that change a file are. Once the setup has ended the files stay as they are.
 abbrev pub FixesFiles : Script → Type 0
 FixesFiles script = All ChangesInSetup script.lines

@@ -6,7 +6,7 @@ pub mod Slots
 pub mod Ends
 pub mod Ptrace
 pub mod Dumpable
-pub mod Casts
+pub mod Broadcasts
 pub mod Answers
 pub mod Change
 pub mod Moves

@@ -34,8 +34,8 @@ abbrev pub in_slot : State → (State → Answer × State) → (State → ℕ �
     → Answer × State
 in_slot s full does = option_map_or (does (swept_if_full s)) (free s) (full (swept_if_full s))
 
--- the state that a task left which couldn't follow a call: where it found no free slot, after a
--- sweep
+-- The state in which a thread ended that couldn't follow a broadcast: where it found no free slot,
+-- the one after the sweep.
 abbrev pub at_abort : AbortCause → State → State
 at_abort Perm s = s
 at_abort Full s = swept s
@@ -55,7 +55,7 @@ updated task number t = if t.number == task then record t { current = number } e
 abbrev pub with_current : List Task → ℕ → ℕ → List Task
 with_current tasks task number = map (updated task number) tasks
 
--- a task that overrides nothing
+-- a new task, which overrides nothing
 abbrev pub first_task : (task process number : ℕ) → Task
 first_task task process number =
     record { number = task; process = process; current = number; overrides = [] }
@@ -92,13 +92,15 @@ holding s label number =
 abbrev pub preparing : State → Prepared → State
 preparing s p = record s { prepared = s.prepared ++ p ∷ [] }
 
--- the prepared labels, where this one was changed
-abbrev pub relabelled : ℕ → Changed → Prepared → Prepared
-relabelled label to p = if p.label == label then record p { changed = Some to } else p
+-- what a label prepares, with this change where it is this label
+abbrev pub altered_at : ℕ → Changed → Prepared → Prepared
+altered_at label to p = if p.label == label then record p { changed = Some to } else p
 
+-- the prepared labels, where this one has the change
 abbrev pub with_change : List Prepared → ℕ → Changed → List Prepared
-with_change prepared label to = map (relabelled label to) prepared
+with_change prepared label to = map (altered_at label to) prepared
 
+-- What a label prepares was changed.
 abbrev pub altered : State → ℕ → Changed → State
 altered s label to = record s { prepared = with_change s.prepared label to }
 

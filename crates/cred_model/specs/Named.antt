@@ -80,7 +80,7 @@ modes (One event) = event_modes event
 modes (OnFile task call) = call_modes call
 modes content = []
 
--- each of these files is one of the first so many
+-- each of these files is one of the first `count`
 abbrev pub AreAmong : ℕ → List ℕ → Type 0
 AreAmong count files = All (λ file. file < count) files
 
@@ -92,7 +92,7 @@ AreDeclared declared namespaces = All (λ namespace. IsSome (chain_in declared n
 abbrev pub AreModes : List ℕ → Type 0
 AreModes modes = All (λ mode. IsMode mode) modes
 
--- The event names only declared files and namespaces, where so many files and these namespaces are
+-- The event names only declared files and namespaces, where `count` files and these namespaces are
 -- declared, and gives a file only what is a mode.
 pub record IsEventOf (count : ℕ) (declared : List Namespace) (event : Event) : Type 0 where
   pub files : AreAmong count (event_files event)

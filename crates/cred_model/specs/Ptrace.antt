@@ -27,7 +27,8 @@ asking_caps Real c = c.perm
 abbrev pub are_all : ℕ → Ids4 → Bool
 are_all id ids = (ids.real == id) && (ids.effective == id) && (ids.saved == id)
 
--- The user ids of the target are all the one that is asked by, and its group ids likewise (step 3).
+-- The target's real, effective and saved user id are all the one that is asked by, and its group
+-- ids likewise (step 3).
 abbrev pub has_asking_ids : Credential → Credential → Mode → Bool
 has_asking_ids from to mode =
     are_all (asking_user mode from) to.uid && are_all (asking_group mode from) to.gid

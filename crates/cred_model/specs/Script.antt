@@ -7,7 +7,7 @@ use Rattle.std.specs.Option.{option_map, option_map_or}
 use Rattle.cred_record.specs.File.{File}
 use Rattle.cred_event.specs.declared.content.Content.{Content}
 
--- A declared file has a name, the bytes of its text, and what checks and execve see of it.
+-- A declared file has a name, as bytes, and what checks and execve see of it.
 pub record NamedFile : Type 0 where
   pub name : List ℕ
   pub info : File
@@ -18,7 +18,7 @@ pub record Line : Type 0 where
   pub content : Content
 
 -- A declared user namespace has a number, the root ids of itself and of its ancestors, its own
--- first, and the numbers of the same (user_namespaces(7)).
+-- first, and the numbers of these namespaces (user_namespaces(7)).
 pub record Namespace : Type 0 where
   pub number : ℕ
   pub chain : List ℕ
@@ -48,6 +48,7 @@ chain_in declared number =
     if number == 0 then Some INITIAL
     else option_map (λ ns. ns.chain) (find (λ ns. ns.number == number) declared)
 
+-- the same; an empty list where it isn't declared
 abbrev pub chain_of : Script → ℕ → List ℕ
 chain_of script number = option_map_or (λ chain. chain) (chain_in script.namespaces number) []
 

@@ -102,6 +102,7 @@ abbrev pub info_of : List File → List ℕ → Option File
 info_of infos [] = None
 info_of infos (place ∷ places) = slice_get infos place
 
+-- the task of this number, if it is alive
 abbrev pub task_of : State → ℕ → Option Task
 task_of s number = find (λ t. t.number == number) s.tasks
 
@@ -117,12 +118,15 @@ broadcast_in s process = find (λ b. b.process == process) s.broadcasts
 abbrev pub begun_by : State → ℕ → Option Broadcast
 begun_by s task = find (λ b. b.caller == task) s.broadcasts
 
+-- the file that is open under a descriptor
 abbrev pub open_of : State → ℕ → Option OpenFile
 open_of s fd = find (λ f. f.fd == fd) s.files
 
+-- the hold of a label
 abbrev pub hold_of : State → ℕ → Option Hold
 hold_of s label = find (λ h. h.label == label) s.holds
 
+-- what a label prepares
 abbrev pub prepared_of : State → ℕ → Option Prepared
 prepared_of s label = find (λ p. p.label == label) s.prepared
 
@@ -132,6 +136,7 @@ pub record Numbered : Type 0 where
   pub cred : Credential
   pub slot : ℕ
 
+-- the sealed credential of this number, with the number
 abbrev pub numbered : List SealedCred → ℕ → Option Numbered
 numbered creds number =
     option_map (λ sealed. record { number = number; cred = sealed.cred; slot = sealed.slot })

@@ -47,8 +47,8 @@ use Rattle.cred_model.specs.State.{prepared_of}
 use Rattle.cred_model.specs.State.{numbered, credential_of, opener_of, held_by, info_of}
 use Rattle.cred_model.specs.Slots.{swept}
 use Rattle.cred_model.specs.Ends.{is_task, is_thread_of, is_beside, ended}
-use Rattle.cred_model.specs.Casts.{not_busy, others_of, with_broadcast, waits_no_more, joined}
-use Rattle.cred_model.specs.Casts.{dropped}
+use Rattle.cred_model.specs.Broadcasts.{not_busy, others_of, with_broadcast, waits_no_more, joined}
+use Rattle.cred_model.specs.Broadcasts.{dropped}
 use Rattle.cred_model.specs.Ptrace.{may_trace}
 use Rattle.cred_model.specs.Dumpable.{is_dumpable, with_process_flag, set_flag, without_flag}
 use Rattle.cred_model.specs.Dumpable.{differs}
@@ -78,7 +78,7 @@ abbrev pub committed_by : Change → Gains → (number slot count : ℕ) → Ans
 committed_by (Exec file) gains number slot count = Executed number slot count gains
 committed_by change gains number slot count = Sealed number slot
 
--- what a commit answers, where so many tasks end with it
+-- what a commit answers, where `count` tasks end with it
 abbrev pub commit_answer : Changed → (number slot count : ℕ) → Answer
 commit_answer last number slot count = committed_by last.change last.gains number slot count
 
@@ -407,8 +407,8 @@ by_ptrace script s from hold to target mode = do
       if may_trace own.cred other.cred same reach dumpable mode then Ok (Done, s) else Err Eperm
 
 -- A file is changed: the credential that a label holds decides by this rule, and the file is from
--- then on what the rule makes of it (chown(2), chmod(2), setxattr(2)). There always is one at the
--- place, since an event names a declared file.
+-- then on what the rule makes of it (chown(2), chmod(2), setxattr(2)). There always is a file at
+-- the place, since an event names a declared one.
 abbrev pub by_file : State → ℕ → ℕ → (Credential → File → Result File Denial)
     → Result (Answer × State) Answer
 by_file s hold place rule = do

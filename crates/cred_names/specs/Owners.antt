@@ -23,6 +23,7 @@ owner_of owners number = lookup (nat_eq number) owners
 abbrev pub is_free : Owners → ℕ → ℕ → Bool
 is_free owners lane number = option_map_or (λ owner. owner == lane) (owner_of owners number) true
 
+-- none of these is named by a line of another lane
 abbrev pub are_free : Owners → ℕ → List ℕ → Bool
 are_free owners lane numbers = list_all (is_free owners lane) numbers
 
@@ -31,6 +32,7 @@ abbrev pub with_owner : Owners → ℕ → ℕ → Owners
 with_owner owners lane number =
     if is_some (owner_of owners number) then owners else owners ++ (number, lane) ∷ []
 
+-- a line of this lane names all of these
 abbrev pub with_owners : Owners → ℕ → List ℕ → Owners
 with_owners owners lane [] = owners
 with_owners owners lane (number ∷ numbers) =

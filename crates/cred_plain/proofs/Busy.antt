@@ -4,7 +4,7 @@ use Rattle.std.specs.Option.{MatchOption, option_map}
 use Rattle.cred_event.specs.declared.answer.Answer.{Answer}
 use Rattle.cred_event.specs.declared.answer.Answer.TheVariants.{Busy}
 use Rattle.cred_model.specs.State.{Broadcast}
-use Rattle.cred_model.specs.Casts.{not_busy}
+use Rattle.cred_model.specs.Broadcasts.{not_busy}
 
 -- the number of the broadcast that was found, if one was
 pub busy_by : (found : Option Broadcast) (number : Option ℕ) → number ≡ option_map (λ b. b.number) found

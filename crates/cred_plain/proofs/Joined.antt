@@ -8,10 +8,10 @@ use Rattle.std.proofs.lemmas.List.Quantifiers.{position-Some}
 use Rattle.std.proofs.lemmas.Option.{slice_get_past}
 use Rattle.std.proofs.lemmas.Bool.Decides.{nat_tests}
 use Rattle.cred_model.specs.State.{Broadcast}
-use Rattle.cred_model.specs.Casts.{waits_in, with_child, joined, SharesNone, WaitsNowhere}
+use Rattle.cred_model.specs.Broadcasts.{waits_in, with_child, joined, SharesNone, WaitsNowhere}
 use Rattle.cred_model.proofs.Lists.{found_none}
 use Rattle.cred_model.proofs.Rising.{AllPairs-head, AllPairs-tail}
-use Rattle.cred_plain.specs.Casts.{joins}
+use Rattle.cred_plain.specs.Broadcasts.{joins}
 
 -- where no element has a place by a test, none passes it
 none_placed : {X : Type 0} (p : X → Bool) (xs : List X) → position p xs ≡ None → All (λ x. p x ≡ false) xs

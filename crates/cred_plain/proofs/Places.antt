@@ -9,7 +9,7 @@ use Rattle.std.proofs.lemmas.List.Folds.{find_at}
 use Rattle.std.proofs.lemmas.List.Quantifiers.{position-Some}
 use Rattle.std.proofs.lemmas.Option.{slice_get-get_or, slice_get_past}
 use Rattle.cred_model.specs.State.{Changed, Prepared, Task}
-use Rattle.cred_model.specs.Moves.{relabelled, overriding, with_change, with_overrides}
+use Rattle.cred_model.specs.Moves.{altered_at, overriding, with_change, with_overrides}
 use Rattle.cred_model.proofs.Lists.{found_none}
 use Rattle.cred_model.proofs.Places.{find-at}
 use Rattle.cred_model.proofs.Rising.{AllPairs-head, AllPairs-tail}
@@ -99,10 +99,10 @@ one_none P tasks task none = λ apart.
 -- ---- one label was changed
 
 module _ (label : ℕ) (to : Changed) where
-  change-others : (p : Prepared) → p.label ≢ label → relabelled label to p ≡ p
+  change-others : (p : Prepared) → p.label ≢ label → altered_at label to p ≡ p
   change-others p other = let test : (p.label == label) ≡ false = grind (arith, nat_tests) in rw test refl
 
-  change-here : (p : Prepared) → p.label ≡ label → relabelled label to p ≡ record p { changed = Some to }
+  change-here : (p : Prepared) → p.label ≡ label → altered_at label to p ≡ record p { changed = Some to }
   change-here p same = let test : (p.label == label) ≡ true = grind (arith, nat_tests) in rw test refl
 
   pub changed_one : (ps : List Prepared) (place : ℕ) (p now : Prepared) → position (λ (q : Prepared). q.label == label) ps ≡ Some place
@@ -113,12 +113,12 @@ module _ (label : ℕ) (to : Changed) where
       let test : ((get_or ps place p).label == label) ≡ true = there.1 in
       let own : (get_or ps place p).label ≡ label = grind (arith, nat_tests) in
       ap (set ps place) (made ∙ ap (λ (q : Prepared). record q { changed = Some to }) is ∙ sym (change-here (get_or ps place p) own))
-      ∙ changed_there (λ (q : Prepared). q.label) (relabelled label to) label change-others ps place p apart there.0 own
+      ∙ changed_there (λ (q : Prepared). q.label) (altered_at label to) label change-others ps place p apart there.0 own
 
   pub changed_none : (ps : List Prepared) → position (λ (q : Prepared). q.label == label) ps ≡ None → ps ≡ with_change ps label to
   changed_none ps none =
       let fails = found_none (λ (q : Prepared). q.label == label) ps (none_there (λ (q : Prepared). q.label == label) ps none) in
-      sym (all_left (λ (q : Prepared). q.label) (relabelled label to) label change-others ps
+      sym (all_left (λ (q : Prepared). q.label) (altered_at label to) label change-others ps
       (λ k e lt.
       let test : ((get_or ps k e).label == label) ≡ false = fails k e lt in
       let differs : (get_or ps k e).label ≢ label = grind (arith, nat_tests) in

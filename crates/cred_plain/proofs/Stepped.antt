@@ -7,9 +7,9 @@ use Rattle.std.proofs.lemmas.Bool.Decides.{nat_tests}
 use Rattle.std.proofs.lemmas.List.Elements.{All-head, All-tail}
 use Rattle.std.proofs.lemmas.Option.{slice_get-get_or}
 use Rattle.cred_model.specs.State.{Broadcast}
-use Rattle.cred_model.specs.Casts.{waits_in, is_open, without_waiter, waits_no_more, SharesNone, WaitsNowhere}
+use Rattle.cred_model.specs.Broadcasts.{waits_in, is_open, without_waiter, waits_no_more, SharesNone, WaitsNowhere}
 use Rattle.cred_model.proofs.Rising.{AllPairs-head, AllPairs-tail, Below}
-use Rattle.cred_plain.specs.Casts.{AreWaitedFor}
+use Rattle.cred_plain.specs.Broadcasts.{AreWaitedFor}
 
 abbrev IsOpen : Broadcast → Type 0
 IsOpen b = is_open b ≡ true

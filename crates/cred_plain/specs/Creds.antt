@@ -1,4 +1,4 @@
--- The sealed credentials, as those that are stored under their numbers and the slot of each number.
+-- The sealed credentials: those that are stored, under their numbers, and the slot of each number.
 use Rattle.std.specs.Prelude.{◌≡◌, ℕ, ◌+◌, ◌<◌, ◌==◌, All, Bool, List, [], ◌∷◌, find, map}
 use Rattle.std.specs.List.Sorted.{IsNonDecreasingBy}
 use Rattle.std.specs.Option.{option_map_or}
@@ -15,7 +15,7 @@ pub record StoredCred : Type 0 where
 abbrev pub gone : Credential
 gone = first_credential 0 0 0 0
 
--- What is stored stands in the order of its numbers, all of which were sealed: so many were.
+-- What is stored stands in the order of its numbers, all of which were sealed: `count` were.
 pub record IsStored (stored : List StoredCred) (count : ℕ) : Type 0 where
   pub rising : IsNonDecreasingBy (λ s. s.number) stored
   pub sealed : All (λ s. s.number < count) stored
@@ -56,6 +56,6 @@ sealed_of forgotten stored slots = sealed_from forgotten stored 0 slots
 abbrev pub slots_of : List SealedCred → List ℕ
 slots_of creds = map (λ sealed. sealed.slot) creds
 
--- a sealed credential with its number, wherever it lies
+-- a sealed credential with its number, as a value where it is borrowed
 abbrev pub seen_numbered : creds.Numbered → Numbered
 seen_numbered n = record { number = n.number; cred = n.cred.now; slot = n.slot }

@@ -1,4 +1,4 @@
 pub mod Creds
 pub mod References
 pub mod Tasks
-pub mod Casts
+pub mod Broadcasts

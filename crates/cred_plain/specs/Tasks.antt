@@ -38,7 +38,7 @@ others_in process task tasks =
 abbrev pub IsTaskAt : List Task → ℕ → ℕ → Type 0
 IsTaskAt tasks number place = option_map (λ t. t.number) (slice_get tasks place) ≡ Some number
 
--- Where no two tasks have one number: this holds of the task of that number, if it is alive.
+-- Where no two tasks share a number, this holds of the task of that number, if it is alive.
 abbrev pub OfOneTask : List Task → ℕ → (Task → Type 0) → Type 0
 OfOneTask tasks task P =
     AllPairs (λ a b. a.number ≢ b.number) tasks → IfSome (find (λ t. t.number == task) tasks) P

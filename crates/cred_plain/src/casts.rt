@@ -5,10 +5,10 @@ ghost use Rattle.std.specs.List.{AllPairs};
 ghost use Rattle.std.specs.Option.{IsSomeAnd, option_map};
 ghost use Rattle.cred_event.specs.declared.answer.Answer.TheVariants.{Busy};
 ghost use Rattle.cred_ids.specs.Ordered.{in_order};
-ghost use Rattle.cred_model.specs.Casts.{is_open, not_busy, waits_in, waits_no_more};
-ghost use Rattle.cred_model.specs.Casts.{with_broadcast};
-ghost use Rattle.cred_model.specs.Casts.{dropped, joined, without_waiter, SharesNone};
-ghost use Rattle.cred_plain.specs.Casts.{AreWaitedFor};
+ghost use Rattle.cred_model.specs.Broadcasts.{is_open, not_busy, waits_in, waits_no_more};
+ghost use Rattle.cred_model.specs.Broadcasts.{with_broadcast};
+ghost use Rattle.cred_model.specs.Broadcasts.{dropped, joined, without_waiter, SharesNone};
+ghost use Rattle.cred_plain.specs.Broadcasts.{AreWaitedFor};
 
 use cred_ids::NoMemory;
 use cred_record::IdCall;

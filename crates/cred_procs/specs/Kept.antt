@@ -7,6 +7,7 @@ use Rattle.cred_procs.specs.declared.processes.Processes.{Processes}
 use Rattle.cred_procs.specs.declared.thread.Thread.{Thread}
 use Rattle.cred_procs.specs.Tasks.{AreTasks, members}
 
+-- an entry of the map, as a task
 abbrev pub task_as : ℕ → Thread → Task
 task_as number t = record {
   number = number;

@@ -13,7 +13,7 @@ use Rattle.cred_model.specs.Moves.{first_task}
 
 -- What is true of the tasks at all times.
 pub record AreTasks (tasks : List Task) : Type 0 where
-  -- no two have one number
+  -- no two share a number
   pub apart : IsDistinct nat_eq (map (λ t. t.number) tasks)
   pub few : length tasks ≤ TASKS
   pub shallow : All (λ t. length t.overrides ≤ DEPTH) tasks

@@ -1,4 +1,4 @@
--- What is known of a command, and what words that are none get.
+-- What is known of a command, and what is written where the words are no command.
 use Rattle.std.specs.Prelude.{◌≡◌, ◌⊎◌, ℕ, List, codes, Some, ⊤}
 use Rattle.std.specs.Io.KnownBytes.{Appends}
 use Rattle.cred_io.specs.Ends.{AppendsPrefix}

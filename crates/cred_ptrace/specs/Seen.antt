@@ -3,6 +3,7 @@ use Rattle.std.specs.Prelude.{◌≡◌}
 use Rattle.cred_record.specs.Credential.{Credential}
 use Rattle.cred_ptrace.specs.declared.check.Seen.{Seen}
 
+-- the ids, the permitted and the effective set, and the user namespace
 abbrev pub seen_of : Credential → Seen
 seen_of c = record { uid = c.uid; gid = c.gid; perm = c.perm; eff = c.eff; ns = c.ns }
 

@@ -128,7 +128,7 @@ one_word word =
     else if bytes_eq word (codes "ebadf") then Some answer.Ebadf
     else None
 
--- what a number that stands already is the number of, by its letter
+-- the kind of thing that already has a number, by its letter
 abbrev pub what_of : ℕ → Option Named
 what_of byte =
     if byte == letter (codes "t") then Some named.Task
@@ -138,7 +138,7 @@ what_of byte =
     else if byte == letter (codes "k") then Some named.Broadcast
     else None
 
--- what stands already
+-- the thing that already has a number
 unfoldable pub exists_of : List ℕ → Result Answer Reason
 exists_of [] = Err Word
 exists_of (first ∷ digits) = do

@@ -26,7 +26,7 @@ pair low high = high * 2 ^ 32 + low
 abbrev pub flags_word : Credential → ℕ
 flags_word c = length c.groups * 2 ^ 16 + (from_bool c.nnp * 2 ^ 8 + c.bits)
 
--- so many words with two groups each, 0 where no group is left
+-- that many words with two groups each, 0 where no group is left
 abbrev pub group_words : ℕ → List ℕ → List ℕ
 group_words zero gs = []
 group_words (suc n) [] = 0 ∷ group_words n []
@@ -104,6 +104,7 @@ low word = word % 2 ^ 32
 abbrev pub high : ℕ → ℕ
 high word = word / 2 ^ 32
 
+-- the four ids in two words
 abbrev pub ids_of : ℕ → ℕ → Ids4
 ids_of first second = record {
   real = low first;

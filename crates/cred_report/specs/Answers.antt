@@ -22,7 +22,7 @@ use Rattle.cred_report.specs.Told.{told_text}
 abbrev pub sealed_text : ℕ → ℕ → List ℕ
 sealed_text cred slot = codes " c" ++ decimal cred ++ codes " s" ++ decimal slot
 
--- what the number of a thing that stands already follows
+-- what comes before the number of a thing that is there already
 abbrev pub exists_text : Named → List ℕ
 exists_text Task = codes "exists t"
 exists_text Process = codes "exists p"

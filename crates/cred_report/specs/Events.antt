@@ -20,12 +20,12 @@ use Rattle.cred_report.specs.Numbers.{arg_text}
 use Rattle.cred_report.specs.Calls.{call_text, change_text}
 use Rattle.cred_report.specs.Told.{mode_text}
 
--- what the label that takes a credential of a task follows
+-- what comes before the label that takes a credential of a task
 abbrev pub take_text : Side → List ℕ
 take_text Subjective = codes "take h"
 take_text Objective = codes "takereal h"
 
--- what the task that asks to look into another follows
+-- what comes before the task that asks to look into another
 abbrev pub trace_text : Mode → List ℕ
 trace_text Fs = codes "ptrace fs t"
 trace_text Real = codes "ptrace real t"

@@ -42,7 +42,7 @@ WORD = 17
 abbrev pub SEALED : ℕ
 SEALED = NUMBER + 2 + NUMBER
 
--- what an exec ended and gained: ` ended ` and a number, ` gain` and three sets
+-- what an execve ended and gained: ` ended ` and a number, ` gain` and three sets
 abbrev pub GAINS : ℕ
 GAINS = 7 + NUMBER + 5 + SETS
 

@@ -62,9 +62,9 @@ is_directory Regular = false
 abbrev pub has_execute_bit : ℕ → Bool
 has_execute_bit mode = has_bit mode OWNER || has_bit mode GROUP || has_bit mode OTHERS
 
--- CAP_DAC_OVERRIDE passes what the bits don't permit, but for the execution of a file that nobody
--- may execute (path_resolution(7), "Bypassing permission checks: superuser and capabilities"; for
--- directories, which may always be searched, Linux's fs/namei.c)
+-- CAP_DAC_OVERRIDE bypasses the bits, but not for the execution of a file that nobody may execute
+-- (path_resolution(7), "Bypassing permission checks: superuser and capabilities"; for directories,
+-- which may always be searched, Linux's fs/namei.c)
 abbrev pub override_passes : File → Want → Bool
 override_passes f asked = is_directory f.kind || not asked.x || has_execute_bit f.mode
 
@@ -72,34 +72,36 @@ override_passes f asked = is_directory f.kind || not asked.x || has_execute_bit 
 abbrev pub is_read : Want → Bool
 is_read asked = asked.r && not asked.w && not asked.x
 
--- CAP_DAC_READ_SEARCH passes the reading of any file, and the reading and searching of directories
--- (capabilities(7))
+-- CAP_DAC_READ_SEARCH bypasses them for the reading of any file, and for the reading and searching
+-- of directories (capabilities(7))
 abbrev pub read_search_passes : File → Want → Bool
 read_search_passes f asked = is_read asked || is_directory f.kind && not asked.w
 
--- the task may do to the file all that it asks for: the bits permit it, or one of two capabilities
--- passes the whole of it (path_resolution(7); that no two of them share it, Linux's
--- fs/namei.c)
+-- the task may do to the file all that it asks for: the bits permit all of it, or one of two
+-- capabilities bypasses them for all of it (path_resolution(7)). What each of the three permits
+-- isn't added up (Linux's fs/namei.c)
 abbrev pub may : Credential → File → Want → Bool
 may c f asked =
     bits_permit c f asked ||
     capable c DAC_OVERRIDE && override_passes f asked ||
     capable c DAC_READ_SEARCH && read_search_passes f asked
 
--- a sender with user id n owns the task: n is its real or its saved user id
-abbrev pub owns : ℕ → Ids4 → Bool
-owns n target = (target.real == n) || (target.saved == n)
+-- user id n owns a task with these user ids: it is the real or the saved one (kill(2))
+abbrev pub owns_task : ℕ → Ids4 → Bool
+owns_task n target = (target.real == n) || (target.saved == n)
 
--- a task may send a signal with CAP_KILL to any other, and else where its real or its effective
--- user id owns the target (kill(2)); within one process (`same`) it always may (Linux's
--- kernel/signal.c)
+-- a task may send a signal to any other with CAP_KILL, and without it where its real or its
+-- effective user id owns the target (kill(2)); within one process (`same`) it always may (Linux's
+-- kernel/signal.c, check_kill_permission)
 abbrev pub may_signal : Credential → Credential → Bool → Bool
 may_signal from to same =
-    same || capable from KILL || owns from.uid.real to.uid || owns from.uid.effective to.uid
+    same ||
+    capable from KILL ||
+    owns_task from.uid.real to.uid ||
+    owns_task from.uid.effective to.uid
 
 -- the effective set that access(2) asks by: the permitted set for root, and no capability for any
--- other, by the real user id (access(2)); with NO_SETUID_FIXUP the task's own (Linux's
--- fs/open.c)
+-- other, by the real user id (access(2)); with NO_SETUID_FIXUP the task's own (Linux's fs/open.c)
 abbrev pub access_effective : Credential → Caps
 access_effective c =
     if is_set c.bits NoSetuidFixup then c.eff

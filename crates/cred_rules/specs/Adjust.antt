@@ -25,9 +25,10 @@ LAST_BITS = 255
 abbrev pub is_no_cap : ℕ → Bool
 is_no_cap n = nat_lt LAST n
 
--- capset(2) may give these sets: the new inheritable set is within the old inheritable and bounding
+-- capset(2) may set these sets: the new inheritable set is within the old inheritable and bounding
 -- sets, and without CAP_SETPCAP also within the old inheritable and permitted sets; nothing becomes
--- permitted that was not, and nothing effective that is not permitted then
+-- permitted that was not, and nothing effective that is not permitted then (capabilities(7),
+-- "Programmatically adjusting capability sets")
 abbrev pub may_capset : Credential → Caps → Caps → Caps → Bool
 may_capset c perm inh eff =
     is_within inh (union c.inh c.bound) &&

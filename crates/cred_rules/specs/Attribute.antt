@@ -1,8 +1,8 @@
 -- The capability attribute of a file: the bytes of its extended attribute `security.capability`,
 -- and what they spell (capabilities(7), "File capability extended attribute versioning";
--- linux/capability.h, `struct vfs_cap_data` and `struct vfs_ns_cap_data`). What stands between the
--- two is a relation, which says what each bit means: no way to read bytes, and none to write them.
--- It is a function too (`attribute_of`), by a law of `cred_filecap`.
+-- linux/capability.h, `struct vfs_cap_data` and `struct vfs_ns_cap_data`). `Spells` relates the
+-- two: it says what each bit means, and not how bytes are read or written. It is a function too
+-- (`attribute_of`), by a law of `cred_filecap`.
 use Rattle.std.specs.Prelude.{◌≡◌, ◌≢◌, ◌⊎◌, ℕ, ◌+◌, ◌*◌, ◌%◌, ◌^◌, ◌<◌, ◌==◌, ◌&&◌, ◌||◌, not}
 use Rattle.std.specs.Prelude.{Bool, false, IsTrue, List, Option, Some, None, length, slice_index}
 use Rattle.std.specs.Prelude.{if◌then◌else◌, nat_lt}
@@ -115,7 +115,7 @@ said bytes version root = record {
   root = root;
 }
 
--- so many bytes with this revision
+-- the bytes are `size` many, and have this revision
 abbrev pub has_form : List ℕ → (size revision : ℕ) → Bool
 has_form bytes size revision = (length bytes == size) && (revision_of bytes == revision)
 
@@ -130,7 +130,7 @@ attribute_of bytes =
 
 -- every bit that spells nothing is zero: in the first word those between the effective flag and the
 -- revision, and in the high words those above the last capability. Version 1 has no high words:
--- what stands there, behind its bytes, is 0
+-- what stands there, after its bytes, is 0
 pub record IsCanonical (bytes : List ℕ) : Type 0 where
   pub flags : (i : ℕ) → 0 < i → i < 24 → has_bit (magic bytes) i ≡ false
   pub perm : (i : ℕ) → LAST < 32 + i → i < 32 → has_bit (perm_high bytes) i ≡ false
@@ -147,7 +147,7 @@ pub data Fault : Type 0 where
 abbrev pub is_version : ℕ → Bool
 is_version n = (n == 1) || (n == 2) || (n == 3)
 
--- why bytes that spell no attribute do not: they are too few to have a revision; else their
+-- why these bytes, which spell no attribute, don't: they are too few to have a revision; else their
 -- revision is no version; else they are not as many as that version has. execve(2) answers EINVAL
 -- to each (security/commoncap.c of Linux, get_vfs_caps_from_disk)
 abbrev pub fault : List ℕ → Fault

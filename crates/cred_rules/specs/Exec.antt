@@ -32,12 +32,12 @@ pub data NoExec : Type 0 where
 -- ---- the file
 
 -- to execute, and nothing else
-abbrev pub EXECUTE : Want
-EXECUTE = record { r = false; w = false; x = true }
+abbrev pub TO_EXECUTE : Want
+TO_EXECUTE = record { r = false; w = false; x = true }
 
 -- the file is a regular one, and the task may execute it (execve(2), EACCES)
 abbrev pub may_execute : Credential → File → Bool
-may_execute c f = not (is_directory f.kind) && may c f EXECUTE
+may_execute c f = not (is_directory f.kind) && may c f TO_EXECUTE
 
 -- the set-id bits and the attribute of the file have effect: under no_new_privs, and where the file
 -- system is mounted nosuid, they are ignored (execve(2))
@@ -55,8 +55,8 @@ SET_GROUP_ID = 10
 abbrev pub sets_user : Credential → File → Bool
 sets_user c f = has_effect c f && has_bit f.mode SET_USER_ID
 
--- the set-group-ID bit is in force: without the execute bit of the group it says something else of
--- the file (inode(7))
+-- the set-group-ID bit is in force: without the execute bit of the group it stands for mandatory
+-- locking (inode(7))
 abbrev pub sets_group : Credential → File → Bool
 sets_group c f = has_effect c f && has_bit f.mode SET_GROUP_ID && has_bit f.mode GROUP
 
@@ -119,8 +119,8 @@ sets_of None = record { perm = empty; inh = empty; effective = false }
 abbrev pub given_by : Credential → FileSets → Caps
 given_by c s = union (meet c.inh s.inh) (meet s.perm c.bound)
 
--- a file with the effective flag gives all of its permitted set (capabilities(7), "Safety checking
--- for capability-dumb binaries"). The test is of the file's own sets, also for root
+-- a file with the effective flag has to give all of its permitted set (capabilities(7), "Safety
+-- checking for capability-dumb binaries"). The test is of the file's own sets, also for root
 -- (security/commoncap.c of Linux)
 abbrev pub gives_all : Credential → Option Attribute → Bool
 gives_all c a = not (sets_of a).effective || is_within (sets_of a).perm (given_by c (sets_of a))
@@ -223,6 +223,7 @@ executed c f a =
     if gives_all c a then Ok (record { cred = after_exec c f a; gains = gains_of c f a })
     else Err GivesTooLittle
 
+-- the same; or, where the attribute can't be read, that refusal
 abbrev pub executed_by
     : Credential → File → Result (Option Attribute) NoExec → Result Executed NoExec
 executed_by c f (Ok a) = executed c f a

@@ -14,7 +14,7 @@ use Rattle.cred_caps.specs.Numbers.{SETUID, LINUX_IMMUTABLE, MKNOD, MAC_OVERRIDE
 use Rattle.cred_caps.specs.Secure.{is_set}
 use Rattle.cred_record.specs.Credential.{Credential, capable, is_root}
 
--- the eight capabilities that act on files
+-- the eight capabilities that act on files, as capabilities(7) lists them there
 abbrev pub FILE_CAPS : Caps
 FILE_CAPS =
     caps_of

@@ -86,7 +86,7 @@ unfoldable pub after_seteuid : Bool → Ids4 → Arg → Result Ids4 Denial
 after_seteuid able ids Keep = Err Invalid
 after_seteuid able ids (Set n) = after_setresuid able ids Keep (Set n) Keep
 
--- the credential with these user ids, and the sets as they follow; or why there are none
+-- the credential with these user ids, and the sets that follow from them; or why there are none
 abbrev pub for_users : Credential → Result Ids4 Denial → Result Credential Denial
 for_users c (Ok ids) = Ok (with_user_ids c ids)
 for_users c (Err e) = Err e
@@ -96,7 +96,7 @@ abbrev pub for_groups : Credential → Result Ids4 Denial → Result Credential 
 for_groups c (Ok ids) = Ok (record c { gid = ids })
 for_groups c (Err e) = Err e
 
--- setgroups(2): with CAP_SETGID at most 1024 groups, kept in order with their repeats. All ids stay
+-- setgroups(2): with CAP_SETGID at most 1024 groups, in order, duplicates too. All ids stay
 unfoldable pub after_setgroups : Credential → List ℕ → Result Credential Denial
 after_setgroups c list =
     if not (capable c SETGID) then Err Perm

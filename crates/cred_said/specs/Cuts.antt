@@ -1,4 +1,4 @@
--- What is written of a journal that came about by threads, where it isn't written whole.
+-- What is written of the journal of a run in threads, where it isn't written whole.
 use Rattle.std.specs.Prelude.{◌≡◌, ◌<◌, ◌⊎◌, ℕ, List, [], ◌++◌, length, take, Some}
 use Rattle.std.specs.Result.{MatchResult}
 use Rattle.std.specs.declared.option.Option.{Option}

@@ -11,7 +11,7 @@ use Rattle.cred_io.specs.declared.source.ReadRefusal.{ReadRefusal}
 use Rattle.cred_io.specs.declared.source.ReadRefusal.TheVariants as source
 use Rattle.cred_event.specs.declared.entry.Entry.{Entry}
 use Rattle.cred_model.specs.Script.{Script}
-use Rattle.cred_model.specs.Journal.{IsSequence, IsLegal}
+use Rattle.cred_model.specs.Journal.{IsLegal}
 use Rattle.cred_laws.specs.Journals.{IsLawful}
 use Rattle.cred_spelling.specs.declared.reason.Reason.{Reason}
 use Rattle.cred_spelling.specs.Lines.{lines_of}
@@ -94,10 +94,6 @@ BeginsOne These before after input =
     (λ script. (journal : List Entry) × These script journal
     × AppendsPrefix before after (text script journal))
     (λ bad. AppendsPrefix before after (bad_text bad))
-
--- A prefix of the text that the input has was written, and nothing else.
-abbrev pub WritesStart : Option (List ℕ) → Option (List ℕ) → List ℕ → Type 0
-WritesStart before after input = BeginsOne IsSequence before after input
 
 -- The statuses that an input may have: which of Done, Bad and TooLarge it is, the input alone
 -- decides, and nothing but a fault or running out of memory takes their place. Only what is

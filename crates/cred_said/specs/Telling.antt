@@ -16,7 +16,7 @@ abbrev pub EndsAs : Status → Status → Type 0
 EndsAs its answer =
     (answer ≡ its) ⊎ ((answer ≡ status.WriteFault) ⊎ (answer ≡ status.Memory))
 
--- What the writing of a text leaves: all of it with the status that it has, and else a prefix.
+-- What the writing of a text leaves: all of it with the status that it has, otherwise a prefix.
 pub record Tells
     (its : Status) (text : List ℕ) (answer : Status) (written now : Option (List ℕ))
     : Type 0 where

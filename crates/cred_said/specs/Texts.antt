@@ -1,4 +1,4 @@
--- What the commands write beside reports.
+-- What the commands write besides reports.
 use Rattle.std.specs.Prelude.{ℕ, List, ◌++◌, codes, decimal}
 use Rattle.cred_rules.specs.Attribute.{Attribute, Fault}
 use Rattle.cred_filecap.specs.Refusals.{attr_refusal_of}

@@ -8,13 +8,14 @@ use Rattle.cred_ids.specs.Limits.{FILES}
 use Rattle.cred_record.specs.File.{File}
 use Rattle.cred_model.specs.Script.{NamedFile}
 
+-- an entry of the map, as a declared file
 abbrev pub named_file : String Global × File → NamedFile
 named_file entry = record { name = string_bytes entry.0; info = entry.1 }
 
 abbrev pub files_of : List (String Global × File) → List NamedFile
 files_of entries = map named_file entries
 
--- There are no more files than a script may declare, and no two of them have one name.
+-- There are no more files than a script may declare, and no two of them share a name.
 pub record AreFew (entries : List (String Global × File)) : Type 0 where
   pub few : length entries ≤ FILES
   pub apart : IsDistinct string_eq (keys_of entries)

@@ -8,7 +8,7 @@ use Rattle.cred_model.specs.FileChanges.{ChangesInSetup}
 use Rattle.cred_script.specs.Acting.{actor}
 use Rattle.cred_names.specs.Labels.{labels}
 
--- what is true of each line of a script that declares so many files, and these namespaces
+-- what is true of each line of a script that declares `count` files, and these namespaces
 pub record IsSoundLine (count : ℕ) (declared : List Namespace) (line : Line) : Type 0 where
   pub lane : line.lane ≤ LAST_LANE
   pub labels : All (λ label. label ≤ LAST_NUMBER) (labels line.content)
@@ -27,7 +27,7 @@ AreApart earlier later =
     → ShareNone (cons_option (actor earlier.content) []) (cons_option (actor later.content) [])
     × ShareNone (labels earlier.content) (labels later.content)
 
--- what is true of the lines of a script that declares so many files, and these namespaces
+-- what is true of the lines of a script that declares `count` files, and these namespaces
 pub record IsSoundScript (count : ℕ) (declared : List Namespace) (lines : List Line)
     : Type 0 where
   pub few : length lines ≤ LINE_LIMIT

@@ -20,7 +20,7 @@ parts_of c = record {
   root = c.root;
 }
 
--- the credential with these ids and sets: no call changes the securebits or root's id
+-- the credential with these ids and sets: no such call changes the securebits or root's id
 abbrev pub with_parts : Credential → IdParts → Credential
 with_parts c own = record c {
   uid = own.uid;

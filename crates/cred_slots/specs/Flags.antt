@@ -9,6 +9,7 @@ use Rattle.cred_ids.specs.Limits.{slots}
 abbrev pub flag_at : List ℕ → ℕ → Bool
 flag_at words slot = bit_at (slice_index words (slot / 64)) (slot % 64) == 1
 
+-- the flags of all slots
 unfoldable pub flags_of : List ℕ → List Bool
 flags_of words = map (flag_at words) slots
 

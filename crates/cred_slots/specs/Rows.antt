@@ -9,6 +9,7 @@ use Rattle.cred_slots.specs.Table.{IsSameBag}
 abbrev pub unused : Row
 unused = record { number = 0; held = 0; late = 0 }
 
+-- the row of a slot
 abbrev pub row_at : List Row → ℕ → Row
 row_at rows slot = slice_index_or rows slot unused
 
@@ -23,9 +24,11 @@ held_count row = row.held
 abbrev pub late_count : Row → ℕ
 late_count row = row.late
 
+-- the numbers that are referred to, each as often as it is
 abbrev pub held_in : List Row → List ℕ
 held_in rows = repeated held_count rows
 
+-- the numbers that were given up, each as often as it was
 abbrev pub late_in : List Row → List ℕ
 late_in rows = repeated late_count rows
 

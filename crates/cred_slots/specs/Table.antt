@@ -46,6 +46,7 @@ is_sealed_in sealed slot number =
 abbrev pub uses_in : Table → ℕ → ℕ
 uses_in t slot = count_by (λ number. is_sealed_in t.sealed slot number) (references t)
 
+-- the slot is kept for a credential that is being prepared
 abbrev pub is_kept_in : Table → ℕ → Bool
 is_kept_in t slot = slice_index_or t.kept slot false
 

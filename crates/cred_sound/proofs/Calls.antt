@@ -19,7 +19,7 @@ use Rattle.cred_model.specs.Slots.{refs}
 use Rattle.cred_model.specs.Change.{by_rule}
 use Rattle.cred_model.specs.Ends.{is_task, is_thread_of, survivors, ended}
 use Rattle.cred_model.specs.Dumpable.{is_dumpable, with_process_flag, without_flag, differs, renewed, flags_left}
-use Rattle.cred_model.specs.Casts.{others_of, with_broadcast, waits_no_more, joined, dropped}
+use Rattle.cred_model.specs.Broadcasts.{others_of, with_broadcast, waits_no_more, joined, dropped}
 use Rattle.cred_model.specs.Moves.{table_full, with_current, first_task, replaced}
 use Rattle.cred_model.specs.Step.{aborted, follow, step}
 use Rattle.cred_model.proofs.Numbers.{owner_number}

@@ -13,7 +13,7 @@ use Rattle.cred_model.specs.Ends.{is_beside, survivors}
 use Rattle.cred_model.specs.Moves.{first_task, overriding, updated, with_current}
 use Rattle.cred_model.specs.Step.{ends_with}
 use Rattle.cred_model.proofs.Numbers.{overriding_as, overriding_number, owner_number, updated_as, updated_number}
-use Rattle.cred_sound.specs.Casts.{IsThread}
+use Rattle.cred_sound.specs.Broadcasts.{IsThread}
 use Rattle.cred_sound.specs.Sound.{IsSound}
 use Rattle.cred_sound.proofs.Parts.{TasksChange, Cause, Creation, Death, broadcasts_left, ByBegin, ByAct, ByRaw, ByCommit, BySpawn, ByFork, ByExit, ByAbort}
 use Rattle.cred_sound.proofs.Parts.{SameTasks, SetsFlag, Creates, Shares, Renews, Overrides, Fewer}

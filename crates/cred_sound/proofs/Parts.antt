@@ -25,7 +25,7 @@ use Rattle.cred_model.specs.Change.{by_change}
 use Rattle.cred_model.specs.Ends.{is_task, is_thread_of, survivors}
 use Rattle.cred_model.specs.Dumpable.{is_dumpable, with_process_flag, set_flag, without_flag, differs, renewed, flags_committed, flags_begun, flags_left}
 use Rattle.cred_model.specs.Dumpable.{flag_of_value}
-use Rattle.cred_model.specs.Casts.{others_of, with_broadcast, waits_no_more, joined, dropped}
+use Rattle.cred_model.specs.Broadcasts.{others_of, with_broadcast, waits_no_more, joined, dropped}
 use Rattle.cred_model.specs.Moves.{with_change, with_current, with_overrides, first_task}
 use Rattle.cred_model.specs.Step.{commit_answer, ends_with}
 use Rattle.cred_sound.specs.Ledger.{IsClear, IsOrderly, SealsOf, ledger}

@@ -13,7 +13,7 @@ use Rattle.cred_model.specs.State.{State, SealedCred, Task, OpenFile, Hold, Prep
 use Rattle.cred_model.specs.Slots.{in_use, refs, kept}
 use Rattle.cred_model.specs.Like.{IsLike}
 use Rattle.cred_model.specs.Ends.{survivors}
-use Rattle.cred_model.specs.Moves.{updated, overriding, relabelled}
+use Rattle.cred_model.specs.Moves.{updated, overriding, altered_at}
 use Rattle.cred_model.specs.Step.{step}
 use Rattle.cred_model.proofs.Lists.{All-kept, All-remove, All-unmap, AllPairs-map, AllPairs-unmap, map_same}
 use Rattle.cred_model.proofs.Numbers.{updated_as, overriding_as, changed_as}
@@ -25,7 +25,7 @@ use Rattle.cred_sound.proofs.References.{own_refs, current_stands}
 use Rattle.cred_sound.proofs.Parts.{with_left, Old, OldOrNew, grows, Changes, CredsChange, TasksChange, ListChange, PreparedChange, SameCreds, Seals, SameTasks}
 use Rattle.cred_sound.proofs.Parts.{SetsFlag, Creates, Shares, Renews, Overrides, Fewer, Stays, Adds, Removes, SamePrepared, Prepares, Alters, Ends}
 use Rattle.cred_sound.proofs.Events.{changes}
-use Rattle.cred_sound.specs.Casts.{IsUnderWay}
+use Rattle.cred_sound.specs.Broadcasts.{IsUnderWay}
 use Rattle.cred_sound.specs.Flags.{AreFlagged}
 use Rattle.cred_sound.proofs.Opened.{broadcasts_open}
 use Rattle.cred_sound.proofs.Dumpable.{flags_after}
@@ -87,7 +87,7 @@ bases_refer script s event left t (Prepares p prepared fresh unheld new has free
 bases_refer script s event left t (Alters label to p base answer prepared is at so acts) old =
     let P = OfBase s left in
     subst (All P) (sym prepared)
-    (All-kept P (relabelled label to) s.prepared (λ p one. changed_as P label to p (λ test. one) one) old)
+    (All-kept P (altered_at label to) s.prepared (λ p one. changed_as P label to p (λ test. one) one) old)
 bases_refer script s event left t (Ends label place p ends prepared at is) old =
     subst (All (OfBase s left)) (sym prepared) (All-remove (OfBase s left) s.prepared place old)
 
@@ -138,7 +138,7 @@ kept_orderly script s event left t (Prepares p prepared fresh unheld new has fre
 kept_orderly script s event left t (Alters label to p base answer prepared is at so acts) order =
     subst (λ k. IsOrderly (with_kept (ledger (with_left s left)) k))
     (sym
-    (ap (map slot_of) prepared ∙ map_same slot_of (relabelled label to) s.prepared (λ p. changed_as (λ q. q.slot ≡ p.slot) label to p (λ test. refl) refl)))
+    (ap (map slot_of) prepared ∙ map_same slot_of (altered_at label to) s.prepared (λ p. changed_as (λ q. q.slot ≡ p.slot) label to p (λ test. refl) refl)))
     order
 kept_orderly script s event left t (Ends label place p ends prepared at is) order =
     let now = ledger (with_left s left) in

@@ -9,7 +9,7 @@ use Rattle.cred_record.specs.declared.refusal.Denial.{Denial}
 use Rattle.cred_event.specs.declared.answer.Answer.{Answer}
 use Rattle.cred_model.specs.State.{State, Task, Broadcast}
 use Rattle.cred_model.specs.Slots.{least_free, swept}
-use Rattle.cred_model.specs.Casts.{not_busy}
+use Rattle.cred_model.specs.Broadcasts.{not_busy}
 use Rattle.cred_event.specs.Answers.{is_ok}
 use Rattle.cred_model.specs.Change.{by_rule}
 use Rattle.cred_model.specs.Moves.{none_or, fewer_or, unless_refused, not_overridden}

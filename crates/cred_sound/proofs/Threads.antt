@@ -14,12 +14,12 @@ use Rattle.cred_ids.specs.Ordered.{in_order}
 use Rattle.cred_record.specs.declared.id_call.IdCall.{IdCall}
 use Rattle.cred_model.specs.State.{Task, Broadcast}
 use Rattle.cred_model.specs.Ends.{is_beside, survivors}
-use Rattle.cred_model.specs.Casts.{waits_in, is_open, with_broadcast, without_waiter, waits_no_more, with_child, joined, dropped}
+use Rattle.cred_model.specs.Broadcasts.{waits_in, is_open, with_broadcast, without_waiter, waits_no_more, with_child, joined, dropped}
 use Rattle.cred_model.proofs.Numbers.{found_number}
 use Rattle.cred_model.proofs.Lists.{AllPairs-map, AllPairs-weaker, Differ, find_changed, none_passes}
 use Rattle.cred_model.proofs.Rising.{AllPairs-head, AllPairs-tail, All-in_order, any-in_order, length-in_order, rising-in_order, rising_differ, Below}
 use Rattle.cred_model.proofs.Rising.{All-passed, find-filter}
-use Rattle.cred_sound.specs.Casts.{IsThread, IsUnderWay}
+use Rattle.cred_sound.specs.Broadcasts.{IsThread, IsUnderWay}
 use Rattle.cred_sound.proofs.Parts.{begun}
 use Rattle.cred_sound.proofs.Unique.{none_has}
 

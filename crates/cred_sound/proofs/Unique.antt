@@ -14,7 +14,7 @@ use Rattle.cred_event.specs.declared.answer.Answer.{Answer}
 use Rattle.cred_model.specs.Script.{Script}
 use Rattle.cred_model.specs.State.{State, Task, Hold, Prepared}
 use Rattle.cred_model.specs.Ends.{survivors}
-use Rattle.cred_model.specs.Moves.{updated, overriding, relabelled, first_task}
+use Rattle.cred_model.specs.Moves.{updated, overriding, altered_at, first_task}
 use Rattle.cred_model.proofs.Lists.{All-kept, All-remove, AllPairs-map, AllPairs-weaker, Differ, found_none, none_found}
 use Rattle.cred_model.proofs.Numbers.{updated_number, overriding_number, changed_as, changed_label}
 use Rattle.cred_sound.proofs.Parts.{ListChange, TasksChange, HoldsChange, PreparedChange, SameTasks, SetsFlag, Creates, Shares, Renews, Overrides, Fewer, Stays}
@@ -74,7 +74,7 @@ labels_differ script s event left t (Prepares p prepared fresh unheld new stands
     (all_pairs_push (Differ prepared_as) s.prepared p differ (none_has prepared_as s.prepared p.label new))
 labels_differ script s event left t (Alters label to p base answer prepared is at so acts) differ =
     subst (AllPairs (Differ prepared_as)) (sym prepared)
-    (differ-map prepared_as (relabelled label to) s.prepared (changed_label label to) differ)
+    (differ-map prepared_as (altered_at label to) s.prepared (changed_label label to) differ)
 labels_differ script s event left t (Ends label place p ends prepared at is) differ =
     subst (AllPairs (Differ prepared_as)) (sym prepared)
     (all_pairs_remove (Differ prepared_as) s.prepared place (slice_get_within s.prepared place p is) differ)
@@ -117,7 +117,7 @@ unheld_all script s event left t (Prepares p prepared fresh free_label new stand
     subst (All (IsNotHeld t.holds)) (sym prepared) (All-push (IsNotHeld t.holds) s.prepared p unheld free_label)
 unheld_all script s event left t (Alters label to p base answer prepared is at so acts) unheld =
     subst (All (IsNotHeld t.holds)) (sym prepared)
-    (All-kept (IsNotHeld t.holds) (relabelled label to) s.prepared
+    (All-kept (IsNotHeld t.holds) (altered_at label to) s.prepared
     (λ p none. changed_as (IsNotHeld t.holds) label to p (λ test. none) none) unheld)
 unheld_all script s event left t (Ends label place p ends prepared at is) unheld =
     subst (All (IsNotHeld t.holds)) (sym prepared) (All-remove (IsNotHeld t.holds) s.prepared place unheld)

@@ -5,7 +5,7 @@ use Rattle.cred_event.specs.declared.entry.Entry.{Entry}
 use Rattle.cred_model.specs.Script.{Script}
 use Rattle.cred_model.specs.Journal.{replay}
 
--- so it is after every journal
+-- at most as many as there may be, after every journal
 abbrev pub TasksAreFew : Type 0
 TasksAreFew =
     (script : Script) (journal : List Entry) → length (replay script journal).tasks ≤ TASKS

@@ -16,6 +16,7 @@ pub record Ledger : Type 0 where
   pub deferred : List ℕ
   pub kept : List ℕ
 
+-- the ledger of a state
 abbrev pub ledger : State → Ledger
 ledger s = record {
   slots = map (λ sealed. sealed.slot) s.creds;

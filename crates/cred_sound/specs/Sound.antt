@@ -6,13 +6,13 @@ use Rattle.cred_model.specs.Script.{Script}
 use Rattle.cred_model.specs.State.{State, hold_of}
 use Rattle.cred_model.specs.Journal.{replay}
 use Rattle.cred_sound.specs.Ledger.{ledger, IsOrderly}
-use Rattle.cred_sound.specs.Casts.{IsUnderWay}
+use Rattle.cred_sound.specs.Broadcasts.{IsUnderWay}
 use Rattle.cred_sound.specs.Flags.{AreFlagged}
 
--- No two tasks have one number, no two open files one descriptor, no two holds one label, and no
--- two prepared labels one label; nor is a prepared label a hold's. A process has one open broadcast
--- at most, no two broadcasts have one number, and each is under way. Each process that has threads
--- has one flag, and no other has any. The references and the slots are in order.
+-- No two tasks share a number, no two open files a descriptor, no two holds a label, and no two
+-- prepared ones a label; nor is a prepared label a hold's. A process has one open broadcast at
+-- most, no two broadcasts share a number, and each is under way. Each process that has threads has
+-- one flag, and no other has any. The references and the slots are in order.
 pub record IsSound (s : State) : Type 0 where
   pub tasks : AllPairs (λ a b. a.number ≢ b.number) s.tasks
   pub broadcasts : AllPairs (λ a b. a.number ≢ b.number) s.broadcasts
@@ -25,6 +25,6 @@ pub record IsSound (s : State) : Type 0 where
   pub labels : All (λ p. hold_of s p.label ≡ None) s.prepared
   pub slots : IsOrderly (ledger s)
 
--- so it is after every journal
+-- this holds after every journal
 abbrev pub StatesAreSound : Type 0
 StatesAreSound = (script : Script) (journal : List Entry) → IsSound (replay script journal)

@@ -8,6 +8,6 @@ abbrev pub Says : {V A : Type 0} → (V → A) → Result V Reason → Result A 
 Says view (Ok v) given = given ≡ Ok (view v)
 Says view (Err reason) given = given ≡ Err reason
 
--- what the words are, wherever they lie
+-- the words as values, where they are borrowed
 abbrev pub nows : List (Bor (List ℕ)) → List (List ℕ)
 nows words = map (λ word. word.now) words

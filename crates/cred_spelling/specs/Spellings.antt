@@ -49,7 +49,7 @@ abbrev pub id_of : List ℕ → Option ℕ
 id_of word =
     option_and_then (λ number. if number == NO_ID then None else Some number) (number_of word)
 
--- `-1` lets the old id stay.
+-- `-1` keeps the old id.
 abbrev pub arg_of : List ℕ → Option Arg
 arg_of word = if bytes_eq word (codes "-1") then Some Keep else option_map Set (id_of word)
 

@@ -9,6 +9,6 @@ abbrev pub named : {A : Type 0} → List (List ℕ × A) → List ℕ → Option
 named [] word = None
 named (row ∷ rows) word = if bytes_eq word row.0 then Some row.1 else named rows word
 
--- the rows, wherever their words lie
+-- the rows as values, where their words are borrowed
 abbrev pub rows : {A : Type 0} → List (Bor (List ℕ) × A) → List (List ℕ × A)
 rows table = map (λ row. (row.0.now, row.1)) table

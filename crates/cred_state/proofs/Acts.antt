@@ -16,7 +16,7 @@ use Rattle.cred_event.specs.declared.answer.AbortCause.TheVariants.{Perm, Full}
 use Rattle.cred_event.specs.declared.answer.Answer.{Answer}
 use Rattle.cred_event.specs.declared.answer.Answer.TheVariants.{Acted, Aborted, NoBroadcast}
 use Rattle.cred_model.specs.State.{State, Task, Broadcast, Numbered, ProcessFlag, numbered, broadcast_of, current_of, task_of}
-use Rattle.cred_model.specs.Casts.{dropped, waits_in, waits_no_more}
+use Rattle.cred_model.specs.Broadcasts.{dropped, waits_in, waits_no_more}
 use Rattle.cred_model.specs.Dumpable.{differs, renewed, without_flag}
 use Rattle.cred_model.specs.Ends.{is_thread_of, survivors, left_by}
 use Rattle.cred_model.specs.Like.{IsOutcomeLike}
@@ -25,7 +25,7 @@ use Rattle.cred_model.specs.Step.{aborted, by_act, outcome}
 use Rattle.cred_model.proofs.Likes.{does_same}
 use Rattle.cred_model.proofs.Lists.{found, slice_get_at}
 use Rattle.cred_model.proofs.Numbers.{owner_number}
-use Rattle.cred_sound.specs.Casts.{IsThread, IsUnderWay}
+use Rattle.cred_sound.specs.Broadcasts.{IsThread, IsUnderWay}
 use Rattle.cred_sound.specs.Sound.{IsSound}
 use Rattle.cred_sound.proofs.Threads.{thread_is, waits_at}
 use Rattle.cred_cast.proofs.Conditions.{least_waits}

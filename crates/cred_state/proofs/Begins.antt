@@ -16,7 +16,7 @@ use Rattle.cred_event.specs.declared.answer.Named.TheVariants as named
 use Rattle.cred_model.specs.State.{State, Task, Broadcast, Numbered, ProcessFlag, numbered, task_of, current_of, broadcast_in, broadcast_of}
 use Rattle.cred_model.specs.Ends.{is_beside}
 use Rattle.cred_model.specs.Answers.{refusal}
-use Rattle.cred_model.specs.Casts.{not_busy, with_broadcast, WaitsNowhere}
+use Rattle.cred_model.specs.Broadcasts.{not_busy, with_broadcast, WaitsNowhere}
 use Rattle.cred_model.specs.Dumpable.{differs, renewed}
 use Rattle.cred_model.specs.Like.{IsOutcomeLike}
 use Rattle.cred_model.specs.Moves.{in_slot, table_full, not_overridden, with_current, replaced}
@@ -25,7 +25,7 @@ use Rattle.cred_model.proofs.Lists.{AllPairs-map}
 use Rattle.cred_model.proofs.Numbers.{current_is}
 use Rattle.cred_model.proofs.Rising.{All-passed}
 use Rattle.cred_model.proofs.Likes.{does_same}
-use Rattle.cred_sound.specs.Casts.{IsThread}
+use Rattle.cred_sound.specs.Broadcasts.{IsThread}
 use Rattle.cred_sound.specs.Sound.{IsSound}
 use Rattle.cred_sound.proofs.Threads.{beside_is, finds_itself, is_thread}
 use Rattle.cred_cast.proofs.Conditions.{idle_waits_nowhere}

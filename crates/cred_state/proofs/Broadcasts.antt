@@ -6,7 +6,7 @@ use Rattle.cred_record.specs.Credential.{Credential}
 use Rattle.cred_event.specs.declared.answer.Answer.{Answer}
 use Rattle.cred_event.specs.declared.answer.Answer.TheVariants.{Busy}
 use Rattle.cred_model.specs.State.{State, Broadcast, ProcessFlag}
-use Rattle.cred_model.specs.Casts.{not_busy}
+use Rattle.cred_model.specs.Broadcasts.{not_busy}
 use Rattle.cred_model.specs.Like.{IsLike}
 use Rattle.cred_slots.specs.Table.{Table}
 use Rattle.cred_tables.specs.Kept.{Parts, IsKept}

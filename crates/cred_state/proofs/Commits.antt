@@ -13,7 +13,7 @@ use Rattle.cred_event.specs.declared.answer.Answer.TheVariants.{Busy, NoTask, No
 use Rattle.cred_event.specs.declared.event.Change.{Change}
 use Rattle.cred_event.specs.declared.event.Change.TheVariants.{Exec}
 use Rattle.cred_model.specs.State.{State, Task, Prepared, Changed, Broadcast, ProcessFlag, task_of, begun_by, prepared_of}
-use Rattle.cred_model.specs.Casts.{not_busy, broadcasts_left}
+use Rattle.cred_model.specs.Broadcasts.{not_busy, broadcasts_left}
 use Rattle.cred_model.specs.Dumpable.{flags_committed}
 use Rattle.cred_model.specs.Slots.{in_use, kept}
 use Rattle.cred_model.specs.Ends.{survivors, ended}

@@ -6,7 +6,7 @@ use Rattle.cred_event.specs.declared.answer.Answer.TheVariants.{Busy, Exists, No
 use Rattle.cred_event.specs.declared.answer.Named.TheVariants as named
 use Rattle.cred_event.specs.declared.answer.Counted.TheVariants as counted
 use Rattle.cred_model.specs.State.{State, Task, Broadcast, Numbered, ProcessFlag, numbered, task_of, current_of, begun_by}
-use Rattle.cred_model.specs.Casts.{not_busy, joined}
+use Rattle.cred_model.specs.Broadcasts.{not_busy, joined}
 use Rattle.cred_model.specs.Dumpable.{is_dumpable, with_process_flag}
 use Rattle.cred_model.specs.Moves.{not_overridden, first_task}
 use Rattle.cred_model.specs.Step.{by_fork, by_spawn, outcome}

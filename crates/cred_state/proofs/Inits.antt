@@ -9,7 +9,7 @@ use Rattle.cred_event.specs.declared.answer.Answer.TheVariants.{Busy, Exists, Se
 use Rattle.cred_event.specs.declared.answer.Named.TheVariants as named
 use Rattle.cred_event.specs.declared.answer.Counted.TheVariants as counted
 use Rattle.cred_model.specs.State.{State, Task, Broadcast, ProcessFlag, broadcast_in, task_of}
-use Rattle.cred_model.specs.Casts.{not_busy}
+use Rattle.cred_model.specs.Broadcasts.{not_busy}
 use Rattle.cred_model.specs.Dumpable.{flags_begun}
 use Rattle.cred_model.specs.Slots.{in_use}
 use Rattle.cred_model.specs.Like.{IsOutcomeLike}

@@ -12,7 +12,7 @@ use Rattle.cred_record.specs.Credential.{Credential}
 use Rattle.cred_event.specs.declared.event.Event.{Event}
 use Rattle.cred_model.specs.State.{State, Prepared, Changed, Numbered, numbered, held_by, prepared_of}
 use Rattle.cred_model.specs.Slots.{kept}
-use Rattle.cred_model.specs.Moves.{relabelled, with_change, altered}
+use Rattle.cred_model.specs.Moves.{altered_at, with_change, altered}
 use Rattle.cred_model.specs.Like.{IsLike}
 use Rattle.cred_model.proofs.Lists.{All-unmap, alone, found}
 use Rattle.cred_model.proofs.Places.{place-of_found}
@@ -172,7 +172,7 @@ module _ {parts : Parts} {store : List (Option Credential)} {t : Table} {out : L
       changed_kept = (
         alter_kept words_kept label to,
         put_back more.prepared out (loan label slot None) new store value lt taken
-            (All-map (λ (q : Prepared). q.slot ≡ slot → value ≡ was_put q) (relabelled label to) parts.prepared
+            (All-map (λ (q : Prepared). q.slot ≡ slot → value ≡ was_put q) (altered_at label to) parts.prepared
             (λ k d within. is_changed (get_or parts.prepared k d) (one_slot k d within) ((get_or parts.prepared k d).label == label) refl))
             (put_changed parts.prepared label to out store
             (λ k d within own alone.

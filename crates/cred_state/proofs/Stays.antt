@@ -10,7 +10,7 @@ use Rattle.cred_event.specs.declared.event.Event.{Event}
 use Rattle.cred_event.specs.declared.event.Event.TheVariants.{Release, Abort, Commit, Override, Ask, Signal, Alter, OpenFile}
 use Rattle.cred_model.specs.Script.{Script}
 use Rattle.cred_model.specs.State.{State, Hold, Prepared, Changed, Numbered, SealedCred, numbered, hold_of, held_by, prepared_of}
-use Rattle.cred_model.specs.Moves.{relabelled}
+use Rattle.cred_model.specs.Moves.{altered_at}
 use Rattle.cred_model.specs.Step.{step}
 use Rattle.cred_model.proofs.Lists.{find-remove_other, find_changed, found, slice_get_at}
 use Rattle.cred_model.proofs.Numbers.{numbered_stays}
@@ -40,14 +40,14 @@ pub record IsSameBut (p q : Prepared) : Type 0 where
   pub base : q.base ≡ p.base
   pub slot : q.slot ≡ p.slot
 
-labels_same : (name : ℕ) (to : Changed) (p : Prepared) → (relabelled name to p).label ≡ p.label
+labels_same : (name : ℕ) (to : Changed) (p : Prepared) → (altered_at name to p).label ≡ p.label
 labels_same name to p = by (p.label == name)
   where
     by : (test : Bool) → (if test then record p { changed = Some to } else p).label ≡ p.label
     by true = refl
     by false = refl
 
-parts_same : (name : ℕ) (to : Changed) (p : Prepared) → IsSameBut p (relabelled name to p)
+parts_same : (name : ℕ) (to : Changed) (p : Prepared) → IsSameBut p (altered_at name to p)
 parts_same name to p = by (p.label == name)
   where
     by : (test : Bool) → IsSameBut p (if test then record p { changed = Some to } else p)
@@ -94,10 +94,10 @@ module _ (script : Script) (s : State) (line : ℕ) (event : Event) (label : ℕ
         record { base = refl; slot = refl },
       )
       by (Alters name to x base answer same there sealed rule acts) = (
-        relabelled name to p,
+        altered_at name to p,
         ap (λ ps. find (λ (p : Prepared). p.label == label) ps) same
-            ∙ find_changed (λ (p : Prepared). p.label) (relabelled name to) s.prepared label (λ x. labels_same name to x)
-            ∙ ap (option_map (relabelled name to)) is,
+            ∙ find_changed (λ (p : Prepared). p.label) (altered_at name to) s.prepared label (λ x. labels_same name to x)
+            ∙ ap (option_map (altered_at name to)) is,
         parts_same name to p,
       )
       by (Ends name place x how same at there) =

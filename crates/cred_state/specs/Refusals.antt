@@ -5,7 +5,7 @@ use Rattle.cred_ids.specs.Limits.{TASKS, PREPARED}
 use Rattle.cred_event.specs.declared.answer.Answer.{Answer}
 use Rattle.cred_model.specs.State.{State, Task, Hold, Numbered, task_of, current_of, begun_by}
 use Rattle.cred_model.specs.State.{broadcast_in, hold_of, prepared_of}
-use Rattle.cred_model.specs.Casts.{not_busy}
+use Rattle.cred_model.specs.Broadcasts.{not_busy}
 use Rattle.cred_model.specs.Moves.{not_overridden}
 use Rattle.cred_model.specs.Step.{by_fork, by_spawn}
 use Rattle.cred_procs.specs.Tasks.{has_process}

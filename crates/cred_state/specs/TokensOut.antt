@@ -79,7 +79,7 @@ pub record IsStanding (s : Standing) : Type 0 where
 abbrev pub IsHome : ℕ → List Loan → Type 0
 IsHome label out = All (λ e. e.label ≢ label) out
 
--- The tokens of what the label prepares: its base's, and an unput writer's.
+-- The tokens of what the label prepares: its base's, and a writer's that has put nothing.
 pub record IsKeptBy (cells : TableId) (s : State) (label : ℕ) (base : Held) (writer : Written)
     : Type 0 where
   pub preparation : Prepared

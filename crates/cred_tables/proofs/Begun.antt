@@ -7,7 +7,7 @@ use Rattle.cred_ids.specs.Limits.{TASKS}
 use Rattle.cred_record.specs.declared.id_call.IdCall.{IdCall}
 use Rattle.cred_model.specs.State.{Task, Broadcast}
 use Rattle.cred_model.specs.Ends.{is_beside}
-use Rattle.cred_model.specs.Casts.{with_broadcast}
+use Rattle.cred_model.specs.Broadcasts.{with_broadcast}
 use Rattle.cred_procs.specs.Tasks.{those}
 use Rattle.cred_tables.specs.Begin.{broadcast_begun}
 

@@ -8,7 +8,7 @@ use Rattle.cred_record.specs.Credential.{Credential}
 use Rattle.cred_event.specs.declared.answer.Answer.TheVariants.{Done}
 use Rattle.cred_event.specs.declared.event.Change.{Change}
 use Rattle.cred_model.specs.State.{State, Task, task_of, begun_by}
-use Rattle.cred_model.specs.Casts.{not_busy, waits_no_more}
+use Rattle.cred_model.specs.Broadcasts.{not_busy, waits_no_more}
 use Rattle.cred_model.specs.Dumpable.{flags_left}
 use Rattle.cred_model.specs.Slots.{in_use}
 use Rattle.cred_model.specs.Ends.{numbers_of, is_task, survivors, left_by, ended}

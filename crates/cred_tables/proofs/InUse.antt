@@ -9,7 +9,7 @@ use Rattle.std.proofs.lemmas.List.{map-append}
 use Rattle.std.proofs.lemmas.List.Elements.{All-head, All-tail}
 use Rattle.cred_model.specs.State.{State, Task, OpenFile, Hold, Prepared, Changed}
 use Rattle.cred_model.specs.Ends.{numbers_of, survivors, left_by, ended}
-use Rattle.cred_model.specs.Moves.{updated, with_current, relabelled, with_change}
+use Rattle.cred_model.specs.Moves.{updated, with_current, altered_at, with_change}
 use Rattle.cred_model.specs.Slots.{in_use, kept}
 use Rattle.cred_slots.specs.Table.{IsSameBag}
 use Rattle.cred_slots.proofs.Counting.{count-cons, count-append}
@@ -263,7 +263,7 @@ in_use-ended s ends = record {
 
 -- ---- a change of a prepared label
 
-with_change-field : (f : Prepared → ℕ) (prepared : List Prepared) (label : ℕ) (to : Changed) → ((p : Prepared) → f (relabelled label to p) ≡ f p)
+with_change-field : (f : Prepared → ℕ) (prepared : List Prepared) (label : ℕ) (to : Changed) → ((p : Prepared) → f (altered_at label to p) ≡ f p)
     → map f (with_change prepared label to) ≡ map f prepared
 with_change-field f [] label to same = refl
 with_change-field f (p ∷ ps) label to same =

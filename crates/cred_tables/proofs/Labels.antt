@@ -8,7 +8,7 @@ use Rattle.std.proofs.lemmas.Map.{lookup-none}
 use Rattle.std.proofs.lemmas.Map.Entries.{none_past_head}
 use Rattle.cred_event.specs.declared.event.Change.{Change}
 use Rattle.cred_model.specs.State.{Prepared, Changed}
-use Rattle.cred_model.specs.Moves.{relabelled, with_change}
+use Rattle.cred_model.specs.Moves.{altered_at, with_change}
 use Rattle.cred_model.specs.Step.{is_access}
 use Rattle.cred_tables.specs.declared.prepared.Preparation.{Preparation}
 use Rattle.cred_tables.specs.Prepared.{prepared_as, all_prepared, IsReady, GivesUpChanged}
@@ -46,7 +46,7 @@ readies prepared label p last found is own = record {
   slot = p.slot;
   last = last;
   by = refl;
-  found = found ∙ ap (λ (relabelled : Option Changed). Some (record { label = label; task = p.task; base = p.base; slot = p.slot; changed = relabelled })) is;
+  found = found ∙ ap (λ (altered_at : Option Changed). Some (record { label = label; task = p.task; base = p.base; slot = p.slot; changed = altered_at })) is;
 }
 
 -- ---- a change
@@ -55,7 +55,7 @@ module _ (label : ℕ) (to : Changed) where
   abbrev pub altered : Preparation → Preparation
   altered p = record p { changed = Some to }
 
-  leaves_other : (p : Prepared) (test : Bool) → (p.label == label) ≡ test → test ≡ false → relabelled label to p ≡ p
+  leaves_other : (p : Prepared) (test : Bool) → (p.label == label) ≡ test → test ≡ false → altered_at label to p ≡ p
   leaves_other p test is other = ap (λ (b : Bool). cond b (record p { changed = Some to }) p) (is ∙ other)
 
   none_after : (test : Bool) (x : Preparation) (rest : Option Preparation) → cond test (Some x) rest ≡ None → (test ≡ false) × (rest ≡ None)
@@ -66,7 +66,7 @@ module _ (label : ℕ) (to : Changed) where
   with_change-none [] none = refl
   with_change-none (e ∷ es) none =
       let first = none_after (nat_eq label e.0) e.1 (lookup (nat_eq label) es) none in
-      let head : relabelled label to (prepared_as e.0 e.1) ≡ prepared_as e.0 e.1
+      let head : altered_at label to (prepared_as e.0 e.1) ≡ prepared_as e.0 e.1
       = leaves_other (prepared_as e.0 e.1) (nat_eq label e.0) (test_sym e.0 label) first.0 in
       ap (λ (p : Prepared). p ∷ with_change (all_prepared es) label to) head
       ∙ ap (λ (ps : List Prepared). prepared_as e.0 e.1 ∷ ps) (with_change-none es first.1)

@@ -7,7 +7,7 @@ use Rattle.std.proofs.lemmas.Bool.{cases_eq, eqb-true}
 use Rattle.std.proofs.lemmas.List.Elements.{All-map, All-push}
 use Rattle.cred_record.specs.Credential.{Credential}
 use Rattle.cred_model.specs.State.{Prepared, Changed}
-use Rattle.cred_model.specs.Moves.{relabelled, with_change}
+use Rattle.cred_model.specs.Moves.{altered_at, with_change}
 use Rattle.cred_model.proofs.Lists.{All-remove}
 use Rattle.cred_words.specs.Lists.{IsTaken}
 use Rattle.cred_hold.specs.Tokens.{Loan, IsAlone}
@@ -122,7 +122,7 @@ put_more prepared p out places new lt free are =
 pub put_changed : (prepared : List Prepared) (label : ℕ) (to : Changed) (out : List Loan) (places : List (Option Credential))
     → All (λ p. p.label ≡ label → IsAlone out p.slot → ⊥) prepared → ArePut prepared out places → ArePut (with_change prepared label to) out places
 put_changed prepared label to out places lent are =
-    All-map (λ p. IsAlone out p.slot → slice_get places p.slot ≡ Some (was_put p)) (relabelled label to) prepared
+    All-map (λ p. IsAlone out p.slot → slice_get places p.slot ≡ Some (was_put p)) (altered_at label to) prepared
     (λ k d lt. by (get_or prepared k d) (are k d lt) (lent k d lt) ((get_or prepared k d).label == label) refl)
   where
     by : (p : Prepared) → (IsAlone out p.slot → slice_get places p.slot ≡ Some (was_put p)) → (p.label ≡ label → IsAlone out p.slot → ⊥)

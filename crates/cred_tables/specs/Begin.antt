@@ -9,10 +9,10 @@ use Rattle.cred_event.specs.declared.answer.AbortCause.TheVariants.{Perm, Full}
 use Rattle.cred_model.specs.State.{State, Task, Broadcast, Numbered, task_of, current_of}
 use Rattle.cred_model.specs.State.{broadcast_of}
 use Rattle.cred_model.specs.State.{broadcast_in}
-use Rattle.cred_model.specs.Casts.{others_of, with_broadcast, WaitsNowhere}
+use Rattle.cred_model.specs.Broadcasts.{others_of, with_broadcast, WaitsNowhere}
 use Rattle.cred_model.specs.Ends.{is_beside}
 use Rattle.cred_model.specs.Moves.{not_overridden}
-use Rattle.cred_cast.specs.Casts.{broadcast_under, broadcast_within}
+use Rattle.cred_cast.specs.Broadcasts.{broadcast_under, broadcast_within}
 use Rattle.cred_procs.specs.Tasks.{task_in, those}
 use Rattle.cred_slots.specs.Table.{Table}
 use Rattle.cred_slots.specs.Table as table
@@ -27,8 +27,9 @@ pub record MayBegin (s : State) (line task : ℕ) (now : Numbered) : Type 0 wher
   pub new : broadcast_of s line ≡ None
   pub own : not_overridden owner ≡ Ok tt
 
--- The broadcast of this number stands in this place, `cast`. The least thread that waits in it is
--- this one. It stands in this place among the tasks, and this is its current credential.
+-- The broadcast of this number stands in place `broadcast` among the open ones. The least thread
+-- that waits in it is this task, which stands in place `place` among the tasks, and this is its
+-- current credential.
 pub record ActsNext (s : State) (number broadcast task place : ℕ) (now : Numbered) : Type 0 where
   pub under : slice_get s.broadcasts broadcast ≡ broadcast_of s number
   pub least : Some task ≡ option_and_then (λ b. slice_get b.waiting 0) (broadcast_of s number)
@@ -60,7 +61,7 @@ pub record MayWait (tasks : List Task) (broadcasts : List Broadcast) (line task 
   pub once : AllPairs (λ a b. a ≢ b) (those (is_beside owner) tasks)
   pub nowhere : All (WaitsNowhere broadcasts) (those (is_beside owner) tasks)
 
--- The broadcast was begun, in which so many wait. Where nobody does it isn't open.
+-- The broadcast was begun, in which `left` threads wait. Where nobody does it isn't open.
 pub record HasBegun (before after : List Broadcast) (broadcast : Broadcast)
     (left : ℕ) : Type 0 where
   pub broadcasts : after ≡ with_broadcast before broadcast

@@ -3,6 +3,7 @@ use Rattle.std.specs.Prelude.{◌≡◌, ℕ, ◌==◌, List, map, position, rem
 use Rattle.std.specs.declared.option.Option.{Option}
 use Rattle.cred_model.specs.State.{Hold}
 
+-- a label with a number, as a hold
 abbrev pub hold_as : ℕ × ℕ → Hold
 hold_as entry = record { label = entry.0; number = entry.1 }
 

@@ -1,5 +1,5 @@
--- What is lent of the shared words for an event that is decided on it, and what stays of a state
--- while it is lent.
+-- Which tokens of the shared words are lent for an event that is decided on them, and what stays of
+-- a state while they are out.
 use Rattle.std.specs.Prelude.{◌≡◌, ◌==◌, ◌&&◌, ℕ, Bool, false, List, [], ◌∷◌, ◌++◌, All}
 use Rattle.std.specs.Prelude.{Contains, map, count_by, is_some, Some, None, slice_get}
 use Rattle.std.specs.Prelude.{if◌then◌else◌}

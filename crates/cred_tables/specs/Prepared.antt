@@ -18,6 +18,7 @@ prepared_as label p = record {
   changed = p.changed;
 }
 
+-- what is prepared under all labels
 abbrev pub all_prepared : List (ℕ × Preparation) → List Prepared
 all_prepared entries = map (λ entry. prepared_as entry.0 entry.1) entries
 
@@ -55,8 +56,8 @@ pub record EndsLabel (before after : List Prepared) (label base slot : ℕ) : Ty
       GivesUp before after
       (record { label = label; task = task; base = base; slot = slot; changed = changed })
 
--- This label gave up what it prepared on this base, which was changed last so, and the slot that it
--- kept.
+-- This label gave up what it prepared on this base, of which this was the last change, and the slot
+-- that it kept.
 pub record GivesUpChanged
     (before after : List Prepared) (label base slot : ℕ) (last : Changed)
     : Type 0 where

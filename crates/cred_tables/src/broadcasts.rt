@@ -2,7 +2,7 @@
 ghost use Rattle.std.specs.Prelude.{◌≡◌, ◌<◌, length, None, IfOk, IfSome, OnOk, OnErr};
 ghost use Rattle.std.specs.Option.{IsSome};
 ghost use Rattle.cred_ids.specs.Limits.{TASKS};
-ghost use Rattle.cred_model.specs.Casts.{joined, WaitsNowhere};
+ghost use Rattle.cred_model.specs.Broadcasts.{joined, WaitsNowhere};
 ghost use Rattle.cred_procs.specs.Tasks.{spawned, task_in};
 ghost use Rattle.cred_tables.specs.Begin.{HasBegun, MayWait, broadcast_begun};
 

@@ -3,7 +3,7 @@ ghost use Rattle.std.specs.Prelude.{◌≡◌, IfOk, IfSome, OnErr};
 ghost use Rattle.std.specs.Option.{IsSome};
 ghost use Rattle.cred_model.specs.Step as model;
 ghost use Rattle.cred_procs.specs.Tasks.{EndsTasks, task_in};
-ghost use Rattle.cred_model.specs.Casts.{broadcasts_left};
+ghost use Rattle.cred_model.specs.Broadcasts.{broadcasts_left};
 
 use cred_cast::Casts;
 use cred_event::Change;

@@ -25,7 +25,7 @@ abbrev pub HasPass : List TurnView → ℕ → LentPass → Type 0
 HasPass views i p = (v : TurnView) × (slice_get views i ≡ Some v) × (pass_in v ≡ Some p)
 
 -- 2. each pass's view, and the one kept aside, has a lane whose row is lent, and that row's
--- numbers. No two of these views have one lane
+-- numbers. No two of these views share a lane
 pub record OfRows (views : List TurnView) (rows : List LaneRow) : Type 0 where
   pub has_row : (i : ℕ) (p : LentPass) → HasPass views i p → HasRow rows p.lane
   pub same_numbers :

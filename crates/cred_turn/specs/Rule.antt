@@ -33,14 +33,14 @@ IsNoRoll Spent = ⊤
 abbrev pub IsOfRow : List LaneRow → LentPass → Type 0
 IsOfRow rows p = HasRow rows p.lane × (row_of rows p.lane ≡ lent_row p.numbers)
 
--- no two have one lane
+-- no two share a lane
 abbrev pub LanesApart : List LentPass → Type 0
 LanesApart [] = ⊤
 LanesApart (p ∷ ps) = AllByRecursion (λ q. q.lane ≢ p.lane) ps × LanesApart ps
 
 -- the rule, with the rows, the pass kept aside and the other views. The one word is 0; the roll's
 -- view is the first, and no other is a roll's; each pass that is out, and the one kept aside, is of
--- a row that is lent and has its numbers, and no two of them have one lane
+-- a row that is lent and has its numbers, and no two of them share a lane
 pub record KeepsPasses
     (words : List ℕ) (views : List TurnView)
     (rows : List LaneRow) (kept : Option LentPass) (others : List TurnView) : Type 0 where

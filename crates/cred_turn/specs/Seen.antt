@@ -15,5 +15,6 @@ pub record Passed : Type 0 where
   pub lane : ℕ
   pub numbers : LaneNumbers
 
+-- a pass of these parts
 abbrev pub pass : TableId → ℕ → LaneNumbers → Passed
 pass roll lane numbers = record { roll = roll; lane = lane; numbers = numbers }

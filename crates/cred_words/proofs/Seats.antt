@@ -11,7 +11,8 @@ use Rattle.cred_words.specs.declared.view.Ledger.{Ledger}
 use Rattle.cred_words.specs.declared.view.View.{View}
 use Rattle.cred_words.specs.declared.view.View.TheVariants.{Master, Lent, Spent}
 use Rattle.cred_words.specs.Lists.{IsTaken}
-use Rattle.cred_words.specs.Words.{ledger_with, put_words, token_of, after_lending_token, lends, after_return_of_token, LearnedToken, ReadAt, PutAt, as_loan}
+use Rattle.cred_words.specs.Words.{ledger_with, put_words, token_of, after_lending_token, lends, after_return_of_token}
+use Rattle.cred_words.specs.Words.{LearnedToken, LoadsAt, StoresAt, as_loan}
 use Rattle.cred_words.specs.Words.{LoanFits, without_ticket, after_back}
 use Rattle.cred_words.specs.Seen.{IsSealedSlot, NoTokenIsOn}
 use Rattle.cred_words.proofs.Steps.{Held, Kept, lends_hold, lends_writer, returns, learns, reads, puts}
@@ -61,14 +62,14 @@ told v w d t put is some h =
     subst P some (subst (λ (u : View). LearnedToken put u w) is h)
 
 pub reads_as : (id : ℕ) (me : Held) (t : Token) (word n : ℕ) → me ≡ held (Lent t)
-    → Allows Kept n id me word (λ m. m) (λ m w. (w.0 ≡ me.0) × ReadAt word me.0 m × (w.1 ≡ me.1))
+    → Allows Kept n id me word (λ m. m) (λ m w. (w.0 ≡ me.0) × LoadsAt word me.0 m × (w.1 ≡ me.1))
 reads_as id me t word n is =
-    subst (λ (v : Held). Allows Kept n id v word (λ m. m) (λ m w. (w.0 ≡ v.0) × ReadAt word v.0 m × (w.1 ≡ v.1))) (sym is) (reads id t word n)
+    subst (λ (v : Held). Allows Kept n id v word (λ m. m) (λ m w. (w.0 ≡ v.0) × LoadsAt word v.0 m × (w.1 ≡ v.1))) (sym is) (reads id t word n)
 
 pub puts_as : (id : ℕ) (me : Held) (t : Token) (word i v n : ℕ) → me ≡ held (Lent t) → i < width → t.writes ≡ true → word ≡ word_place t.slot i
-    → Allows Kept n id me word (λ _. v) (λ _ w. PutAt word v me.0 w.0 × (w.1 ≡ me.1))
+    → Allows Kept n id me word (λ _. v) (λ _ w. StoresAt word v me.0 w.0 × (w.1 ≡ me.1))
 puts_as id me t word i v n is small writes at =
-    let P : Held × ℕ → Type 0 = λ x. Allows Kept n id x.0 x.1 (λ _. v) (λ _ w. PutAt x.1 v x.0.0 w.0 × (w.1 ≡ x.0.1)) in
+    let P : Held × ℕ → Type 0 = λ x. Allows Kept n id x.0 x.1 (λ _. v) (λ _ w. StoresAt x.1 v x.0.0 w.0 × (w.1 ≡ x.0.1)) in
     subst P (λ i. (sym is i, sym at i)) (puts id t i v n small writes)
 
 -- what a token knows of a slot that stands in the master's list
@@ -90,12 +91,12 @@ came_back me them d t is they =
     subst (λ (v : Held). R v them ≡ held (Master (ledger_with d.slots d.next d.loans (Some t)))) (sym is) (ap (R (held (Master d))) they)
 
 -- what a put tells
-pub was_put : (v w : View) (t : Token) (word i n : ℕ) → v ≡ Lent t → i < width → word ≡ word_place t.slot i → PutAt word n v w
+pub was_put : (v w : View) (t : Token) (word i n : ℕ) → v ≡ Lent t → i < width → word ≡ word_place t.slot i → StoresAt word n v w
     → w ≡ Lent (put_words t (set t.words i n))
-was_put v w t word i n is small at h = subst (λ (u : View). PutAt word n u w) is h i small at
+was_put v w t word i n is small at h = subst (λ (u : View). StoresAt word n u w) is h i small at
 
-pub was_read : (v : View) (t : Token) (word i n : ℕ) → v ≡ Lent t → i < width → word ≡ word_place t.slot i → ReadAt word v n → n ≡ slice_index t.words i
-was_read v t word i n is small at h = subst (λ (u : View). ReadAt word u n) is h i small at
+pub was_read : (v : View) (t : Token) (word i n : ℕ) → v ≡ Lent t → i < width → word ≡ word_place t.slot i → LoadsAt word v n → n ≡ slice_index t.words i
+was_read v t word i n is small at h = subst (λ (u : View). LoadsAt word u n) is h i small at
 
 pub some_of : (o : Option Token) → IsSome o → (t : Token) × (o ≡ Some t)
 some_of None h = absurd (true≢false (sym h))

@@ -22,7 +22,7 @@ use Rattle.cred_words.specs.Words.{slot_of, ledger_with, token, as_loan, put_wor
 use Rattle.cred_words.specs.Words.{IsNoMaster, Apart, OwnTickets, WordsStand, FitsAs, LoanFits}
 use Rattle.cred_words.specs.Words.{NoWriterOn, KeepsWords, WordRuleHolds, words_at, lent_token}
 use Rattle.cred_words.specs.Words.{after_lend, after_lending_token, lends, after_return_of_token, without_ticket, slots_back}
-use Rattle.cred_words.specs.Words.{after_back, LearnedToken, ReadAt, PutAt}
+use Rattle.cred_words.specs.Words.{after_back, LearnedToken, LoadsAt, StoresAt}
 use Rattle.cred_words.proofs.Lists.{all_snoc, all_set, all_then, all_both, get_set_here, get_set_else, get_set, words_at-get, Ticket, out_of-snoc, own_snoc}
 use Rattle.cred_words.proofs.Lists.{one_of, spent_all, spent_own, swap_all, swap_own, has_all, apart_of, same_ticket, without_all, without_apart, has_without}
 use Rattle.cred_words.proofs.Lists.{without_others, without-taken, all_with, same_word, stands_other, stands_here}
@@ -326,7 +326,7 @@ learns slots next loans t put n s h homes at range =
 -- 5. Read a word
 
 pub reads : (id : ℕ) (t : Token) (word n : ℕ)
-    → Allows {S = Unit {0}} Kept n id (Lent t, []) word (λ m. m) (λ m w. (w.0 ≡ Lent t) × ReadAt word (Lent t) m × (w.1 ≡ []))
+    → Allows {S = Unit {0}} Kept n id (Lent t, []) word (λ m. m) (λ m w. (w.0 ≡ Lent t) × LoadsAt word (Lent t) m × (w.1 ≡ []))
 reads id t word n s h homes at range =
     let b = behind s.words s.views id t at h in
     let stands = one_of (λ u. WordsStand s.words u.slot u.words) (token_aside b.kept ∷ b.others) (suc b.j) t b.here b.keeps.stand in (
@@ -348,7 +348,7 @@ loan_put t ws w = ap (λ (l : List ℕ). token t.ticket t.label t.slot t.writes 
     by false e = absurd (true≢false (sym e))
 
 pub puts : (id : ℕ) (t : Token) (i v n : ℕ) → i < width → t.writes ≡ true
-    → Allows {S = Unit {0}} Kept n id (Lent t, []) (word_place t.slot i) (λ _. v) (λ _ w. PutAt (word_place t.slot i) v (Lent t) w.0 × (w.1 ≡ []))
+    → Allows {S = Unit {0}} Kept n id (Lent t, []) (word_place t.slot i) (λ _. v) (λ _ w. StoresAt (word_place t.slot i) v (Lent t) w.0 × (w.1 ≡ []))
 puts id t i v n small writes s h homes at range =
     let b = behind s.words s.views id t at h in
     let k = b.keeps in

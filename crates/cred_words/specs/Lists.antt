@@ -1,4 +1,4 @@
--- Lists of what is lent.
+-- Lists of what is lent: what is in one, and one without one of its elements.
 use Rattle.std.specs.Prelude.{◌≡◌, ◌⊎◌, List, [], ◌∷◌, ◌++◌}
 
 -- x is in the list

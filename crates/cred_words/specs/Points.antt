@@ -1,5 +1,5 @@
 -- The rule of the shared words, as six points of what the table holds between any two steps. Word 0
--- is the guide. Slot s has the words from `place s 0` on.
+-- is the guide. Slot s has the words from `word_place s 0` on.
 use Rattle.std.specs.Prelude.{◌≡◌, ◌≢◌, ◌<◌, ℕ, List, ◌∷◌, Some, true, false, slice_get}
 use Rattle.std.specs.Prelude.{slice_index}
 use Rattle.cred_record.specs.Credential.{Credential}
@@ -12,11 +12,11 @@ use Rattle.cred_words.specs.declared.view.Ledger.{Ledger}
 use Rattle.cred_words.specs.declared.view.View.{View}
 use Rattle.cred_words.specs.declared.view.View.TheVariants.{Master}
 
--- the holds' and writers' views, and the view kept aside
+-- the tokens of holds and writers, and the one kept aside
 abbrev pub tokens_of : Ledger → List View → List Token
 tokens_of d views = tokens_out_of (token_aside d.kept ∷ views)
 
--- no two elements have one ticket
+-- no two elements share a ticket
 abbrev pub AreDistinct : List Token → Type 0
 AreDistinct ts =
     (i j : ℕ) (t u : Token) → slice_get ts i ≡ Some t → slice_get ts j ≡ Some u →
@@ -37,7 +37,7 @@ pub record Agrees (t e : Token) : Type 0 where
   pub kind : e.writes ≡ t.writes
   pub words : t.writes ≡ false → e.words ≡ t.words
 
--- 2. each token agrees with exactly one loan, and no two tokens have one ticket
+-- 2. each token agrees with exactly one loan, and no two tokens share a ticket
 pub record HaveLoans (views : List View) (d : Ledger) : Type 0 where
   pub has :
       (t : Token) → Has (tokens_of d views) t → (e : Token) × Has d.loans e × Agrees t e

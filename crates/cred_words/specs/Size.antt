@@ -8,6 +8,7 @@ use Rattle.cred_record.specs.declared.layout.TheConstants.{WORDS}
 unfoldable pub width : ℕ
 width = WORDS
 
+-- the slots of the table
 unfoldable pub count : ℕ
 count = SLOTS
 

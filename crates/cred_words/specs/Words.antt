@@ -50,7 +50,7 @@ tokens_out_of (Master d ∷ vs) = tokens_out_of vs
 tokens_out_of (Lent t ∷ vs) = t ∷ tokens_out_of vs
 tokens_out_of (Spent ∷ vs) = tokens_out_of vs
 
--- the view kept aside, as a view
+-- the token kept aside, as a view
 abbrev pub token_aside : Option Token → View
 token_aside None = Spent
 token_aside (Some t) = Lent t
@@ -72,7 +72,7 @@ abbrev pub AllApart : List Token → Type 0
 AllApart [] = ⊤
 AllApart (e ∷ es) = AllByRecursion (Apart e) es × AllApart es
 
--- no two have one ticket
+-- no two share a ticket
 abbrev pub OwnTickets : List Token → Type 0
 OwnTickets [] = ⊤
 OwnTickets (t ∷ ts) = AllByRecursion (λ u. u.ticket ≢ t.ticket) ts × OwnTickets ts
@@ -83,6 +83,7 @@ pub record WordsStand (words : List ℕ) (slot : ℕ) (ws : List ℕ) : Type 0 w
   pub wide : length ws ≡ width
   pub each : (i : ℕ) → i < width → slice_index words (word_place slot i) ≡ slice_index ws i
 
+-- the loan's slot, by whether the loan is a writer's
 abbrev pub FitsAs : Bool → List Slot → Token → Type 0
 FitsAs true slots e = (ws : List ℕ) × (slice_get slots e.slot ≡ Some (slot_of ws false))
 FitsAs false slots e = slice_get slots e.slot ≡ Some (slot_of e.words true)
@@ -177,6 +178,7 @@ after_lending_token label slot writes (Master d) = Master (after_lend d label sl
 after_lending_token label slot writes (Lent t) = Lent t
 after_lending_token label slot writes Spent = Spent
 
+-- the view of the token that a lend gives
 abbrev pub lends : ℕ → ℕ → Bool → View → View
 lends label slot writes v = Lent (lent_token (ledger_of v) label slot writes)
 
@@ -217,22 +219,23 @@ LearnedAs d put (Some t) w =
     × LoanFits d.slots (as_loan t) ×
     (w ≡ Master (after_back d t put))
 
+-- the same of any view: to others than the master the load reports nothing
 abbrev pub LearnedToken : Bool → View → View → Type 0
 LearnedToken put (Master d) w = LearnedAs d put d.kept w
 LearnedToken put (Lent t) w = w ≡ Lent t
 LearnedToken put Spent w = w ≡ Spent
 
 -- what the load of a word reports
-abbrev pub ReadAt : ℕ → View → ℕ → Type 0
-ReadAt word (Master d) n = ⊤
-ReadAt word (Lent t) n =
+abbrev pub LoadsAt : ℕ → View → ℕ → Type 0
+LoadsAt word (Master d) n = ⊤
+LoadsAt word (Lent t) n =
     (i : ℕ) → i < width → word ≡ word_place t.slot i → n ≡ slice_index t.words i
-ReadAt word Spent n = ⊤
+LoadsAt word Spent n = ⊤
 
 -- what the store of a word does
-abbrev pub PutAt : ℕ → ℕ → View → View → Type 0
-PutAt word n (Master d) w = ⊤
-PutAt word n (Lent t) w =
+abbrev pub StoresAt : ℕ → ℕ → View → View → Type 0
+StoresAt word n (Master d) w = ⊤
+StoresAt word n (Lent t) w =
     (i : ℕ) → i < width → word ≡ word_place t.slot i →
     w ≡ Lent (put_words t (slice_set t.words i n))
-PutAt word n Spent w = ⊤
+StoresAt word n Spent w = ⊤

@@ -11,7 +11,7 @@ ghost use Rattle.cred_words.specs.Words.{token_of};
 ghost use Rattle.cred_words.specs.declared.view.View.TheVariants.{Lent};
 ghost use Rattle.cred_words.specs.Seen.{IsSealedSlot, NoTokenIsOn};
 
-use crate::rule::{Learns, LendsHold, LendsWriter, Order, Puts, Reads, Returns, Words};
+use crate::rule::{Learns, LendsHold, LendsWriter, Loads, Order, Returns, Stores, Words};
 use crate::view::View;
 use atomic_table::{Seat, Table};
 use cred_ids::limits;
@@ -284,7 +284,7 @@ fn load_from(cells: &Cells, seat: &mut Seat<(), View>, slot: u32, i: usize) -> u
     ensures same { (seat.new.table_id ≡ seat.old.table_id) × (seat.new.me ≡ seat.old.me) }
 {
     let shared = &cells.table.shared;
-    shared.load::<Reads>(seat, place_of(slot, i))
+    shared.load::<Loads>(seat, place_of(slot, i))
 }
 
 /// Loads the word `i` of the slot that is held. It waits for nobody.
@@ -320,7 +320,7 @@ pub fn store_word(cells: &Cells, writer: &mut Writer, slot: u32, i: usize, word:
 {
     let shared = &cells.table.shared;
     let seat = &mut writer.seat;
-    shared.store::<Puts>(seat, place_of(slot, i), word);
+    shared.store::<Stores>(seat, place_of(slot, i), word);
 }
 
 /// Stores the word `i` of the slot that is written, unless it stands there already: a load costs

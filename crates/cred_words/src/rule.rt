@@ -83,21 +83,21 @@ impl<O: Order> Play<(), View> for Learns<O> {
 }
 
 /// Loads a word of a slot that is held or written.
-pub struct Reads;
+pub struct Loads;
 
-impl Play<(), View> for Reads {
+impl Play<(), View> for Loads {
     ghost use Rattle.std.specs.Prelude.{◌≡◌};
-    ghost use Rattle.cred_words.specs.Words.{ReadAt};
+    ghost use Rattle.cred_words.specs.Words.{LoadsAt};
 
-    ghost then = { λ step v n w. (w.0 ≡ v.0) × ReadAt step.word v.0 n × (w.1 ≡ v.1) };
+    ghost then = { λ step v n w. (w.0 ≡ v.0) × LoadsAt step.word v.0 n × (w.1 ≡ v.1) };
 }
 
 /// Stores a word of a slot that is written.
-pub struct Puts;
+pub struct Stores;
 
-impl Play<(), View> for Puts {
+impl Play<(), View> for Stores {
     ghost use Rattle.std.specs.Prelude.{◌≡◌};
-    ghost use Rattle.cred_words.specs.Words.{PutAt};
+    ghost use Rattle.cred_words.specs.Words.{StoresAt};
 
-    ghost then = { λ step v _ w. PutAt step.word step.first v.0 w.0 × (w.1 ≡ v.1) };
+    ghost then = { λ step v _ w. StoresAt step.word step.first v.0 w.0 × (w.1 ≡ v.1) };
 }

@@ -18,7 +18,7 @@ ghost use Rattle.cred_state.specs.TokensOut.{loans_of, needs_decision};
 ghost use Rattle.cred_book.specs.Book.{answer_of, infos_in};
 ghost use Rattle.cred_book.specs.Counts.{HasEntered};
 ghost use Rattle.cred_book.specs.Cursor.{Finishes, BookStands, NoLineIsLeft, steps_left};
-ghost use Rattle.cred_book.specs.Works.{IsChainFor, IsEntered, IsHanded, IsLanes, IsWorkOf};
+ghost use Rattle.cred_book.specs.Works.{IsChainFor, IsEntered, IsHanded, IsOfLane, IsWorkOf};
 ghost use Rattle.cred_book.specs.Works.{with_out};
 ghost use Rattle.cred_book.specs.declared.step.Step.TheVariants.{More};
 
@@ -43,7 +43,7 @@ impl Book {
     pub fn finish(&mut self, cells: &Cells, lane: u32, work: Work) -> Result<Step, Unfinished>
         requires own { self.old.words.id ≡ cells.now }
         requires stands { BookStands self.old }
-        requires lanes { IsLanes self.old lane work }
+        requires lanes { IsOfLane self.old lane work }
         requires decided { IsDecided work }
         ensures script { self.new.script ≡ self.old.script }
         ensures cells { self.new.words.id ≡ self.old.words.id }

@@ -10,7 +10,7 @@ ghost use Rattle.cred_record.specs.declared.id_call.IdCall.{IdCall as Call};
 ghost use Rattle.cred_record.specs.Credential.{AreValidSets, Credential};
 ghost use Rattle.cred_rules.specs.SetId.{set_id};
 ghost use Rattle.cred_model.specs.State.{Broadcast, begun_by, broadcast_in, numbered, task_of};
-ghost use Rattle.cred_model.specs.Casts.{not_busy};
+ghost use Rattle.cred_model.specs.Broadcasts.{not_busy};
 ghost use Rattle.cred_model.specs.Dumpable.{differs};
 ghost use Rattle.cred_model.specs.Like.{Gives, GivesLike};
 ghost use Rattle.cred_model.specs.Step.{aborted, by_act, by_begin};

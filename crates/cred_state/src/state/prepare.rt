@@ -3,7 +3,7 @@ ghost use Rattle.std.specs.Prelude.{◌≡◌, Ok, Some, IfOk, IfSome, MatchResu
 ghost use Rattle.std.specs.Option.{option_map, option_and_then};
 ghost use Rattle.cred_model.specs.State.{begun_by, numbered, prepared_of, task_of};
 ghost use Rattle.cred_model.specs.State.{Changed};
-ghost use Rattle.cred_model.specs.Casts.{not_busy};
+ghost use Rattle.cred_model.specs.Broadcasts.{not_busy};
 ghost use Rattle.cred_model.specs.Moves.{not_overridden};
 ghost use Rattle.cred_model.specs.Like.{Gives, GivesLike};
 ghost use Rattle.cred_sound.specs.Sound.{IsSound};

@@ -4,7 +4,7 @@ ghost use Rattle.std.specs.Prelude.{OnErr};
 ghost use Rattle.std.specs.Prelude.{MatchOption, MatchResult};
 ghost use Rattle.cred_ids.specs.Limits.{TASKS};
 ghost use Rattle.cred_record.specs.Credential.{first_credential};
-ghost use Rattle.cred_model.specs.Casts.{not_busy};
+ghost use Rattle.cred_model.specs.Broadcasts.{not_busy};
 ghost use Rattle.cred_model.specs.Dumpable.{flag_in};
 ghost use Rattle.cred_model.specs.Like.{Gives, GivesLike};
 ghost use Rattle.cred_model.specs.State.{broadcast_in, task_of};

@@ -4,7 +4,7 @@ ghost use Rattle.std.specs.Prelude.{◌≡◌, ◌<◌, ℕ, [], None, OnOk};
 ghost use Rattle.cred_book.specs.Book.{out_of};
 ghost use Rattle.cred_book.specs.Counts.{IsOutNow};
 ghost use Rattle.cred_book.specs.Cursor.{BookStands, steps_left};
-ghost use Rattle.cred_book.specs.Works.{IsLanes};
+ghost use Rattle.cred_book.specs.Works.{IsOfLane};
 
 use cred_book::{Book, Step};
 use cred_grammar::{line_count, read};
@@ -88,7 +88,7 @@ fn decide_and_enter(
 ) -> Result<(), NoMemory>
     requires own { book.old.words.id ≡ cells.now }
     requires stands { BookStands book.old }
-    requires lanes { IsLanes book.old lane work }
+    requires lanes { IsOfLane book.old lane work }
     ensures cells { book.new.words.id ≡ book.old.words.id }
     ensures stands { BookStands book.new }
     ensures outs { OnOk result (IsOutNow book.old book.new lane None) }

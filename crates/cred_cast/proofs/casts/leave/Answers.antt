@@ -3,7 +3,7 @@ use Rattle.std.specs.List.{filter}
 use Rattle.std.proofs.lemmas.Fn.{filter_same}
 use Rattle.std.proofs.lemmas.List.{drop_all, take_all}
 use Rattle.std.proofs.lemmas.List.Edits.{map_over_more}
-use Rattle.cred_model.specs.Casts.{is_open, without_waiter}
+use Rattle.cred_model.specs.Broadcasts.{is_open, without_waiter}
 use Rattle.cred_cast.proofs.casts.leave.Goals as goal
 
 -- what was written over a whole list

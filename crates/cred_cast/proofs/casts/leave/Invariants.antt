@@ -1,5 +1,5 @@
 use Rattle.std.proofs.Common.{◌≡◌, ◌++◌, map, take, drop}
-use Rattle.cred_model.specs.Casts.{without_waiter}
+use Rattle.cred_model.specs.Broadcasts.{without_waiter}
 use Rattle.cred_cast.proofs.casts.leave.Given as goal
 
 abbrev pub invariant-loop-broadcast : goal.invariant-loop-broadcast

@@ -1,5 +1,5 @@
 use Rattle.std.proofs.Common.{◌≡◌, ◌∙◌, true, false, rules}
-use Rattle.cred_model.specs.Casts.{is_open}
+use Rattle.cred_model.specs.Broadcasts.{is_open}
 use Rattle.cred_plain.proofs.Stepped.{left_closed, left_open}
 use Rattle.cred_plain.proofs.casts.act.Goals as goal
 

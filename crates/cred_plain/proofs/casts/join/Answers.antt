@@ -3,7 +3,7 @@ use Rattle.std.specs.List.{position}
 use Rattle.std.proofs.lemmas.Iterator.{YieldsList-from_slice}
 use Rattle.std.proofs.lemmas.Iterator.Search.{position_from_yields_List}
 use Rattle.std.proofs.lemmas.Result.{on_ok_weaker}
-use Rattle.cred_model.specs.Casts.{waits_in}
+use Rattle.cred_model.specs.Broadcasts.{waits_in}
 use Rattle.cred_plain.proofs.Joined.{joined_nowhere, joined_place}
 use Rattle.cred_plain.proofs.casts.join.Goals as goal
 

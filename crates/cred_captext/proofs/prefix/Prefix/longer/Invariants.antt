@@ -1,7 +1,7 @@
 use Rattle.std.proofs.Common.{◌≡◌, ℕ, ◌<◌, ◌++◌, ◌∷◌, [], false}
-use Rattle.cred_captext.specs.Names.{small_name, begins_with}
+use Rattle.cred_captext.specs.Names.{lowercase_name, begins_with}
 use Rattle.cred_captext.proofs.prefix.Prefix.longer.Given as goal
 
 abbrev pub invariant-loop-number : goal.invariant-loop-number
 invariant-loop-number l =
-    (k : ℕ) → k < l.number → begins_with (small_name k) (l.self ++ l.byte ∷ []) ≡ false
+    (k : ℕ) → k < l.number → begins_with (lowercase_name k) (l.self ++ l.byte ∷ []) ≡ false

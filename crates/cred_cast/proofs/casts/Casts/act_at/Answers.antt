@@ -1,5 +1,5 @@
 use Rattle.std.proofs.Common.{◌∙◌, sym, subst}
-use Rattle.cred_cast.specs.Casts.{AreBroadcasts}
+use Rattle.cred_cast.specs.Broadcasts.{AreBroadcasts}
 use Rattle.cred_cast.proofs.Kept.{are_left}
 use Rattle.cred_cast.proofs.Left.{left_beside, left_open, left_closed}
 use Rattle.cred_cast.proofs.casts.Casts.act_at.Goals as goal

@@ -3,10 +3,10 @@ use Rattle.cred_ids.specs.Ordered.{in_order}
 use Rattle.cred_record.specs.declared.id_call.IdCall.{IdCall}
 use Rattle.cred_model.specs.State.{Broadcast}
 use Rattle.cred_model.proofs.Rising.{All-in_order, rising-in_order}
-use Rattle.cred_cast.specs.Casts.{AreBroadcasts}
+use Rattle.cred_cast.specs.Broadcasts.{AreBroadcasts}
 use Rattle.cred_cast.proofs.Kept.{are_begun}
 use Rattle.cred_model.proofs.Waiting.{open_in_order}
-use Rattle.cred_model.specs.Casts.{WaitsNowhere}
+use Rattle.cred_model.specs.Broadcasts.{WaitsNowhere}
 use Rattle.cred_cast.proofs.casts.Casts.begin.Goals as goal
 
 abbrev broadcast_with : (number process caller : ℕ) → IdCall → List ℕ → Broadcast

@@ -1,7 +1,7 @@
 use Rattle.std.proofs.Common.{◌==◌, not, sym, subst, rules, tests}
 use Rattle.std.proofs.lemmas.Fn.{filter_same}
 use Rattle.cred_model.specs.State.{Broadcast}
-use Rattle.cred_cast.specs.Casts.{AreBroadcasts}
+use Rattle.cred_cast.specs.Broadcasts.{AreBroadcasts}
 use Rattle.cred_cast.proofs.Kept.{are_dropped}
 use Rattle.cred_cast.proofs.casts.Casts.dropped.Goals as goal
 

@@ -4,8 +4,8 @@ use Rattle.std.proofs.lemmas.Iterator.{YieldsList-from_slice}
 use Rattle.std.proofs.lemmas.Iterator.Search.{position_from_yields_List}
 use Rattle.std.proofs.lemmas.List.{set-get_or}
 use Rattle.std.proofs.lemmas.Result.{on_ok_weaker}
-use Rattle.cred_model.specs.Casts.{waits_in}
-use Rattle.cred_cast.specs.Casts.{AreBroadcasts}
+use Rattle.cred_model.specs.Broadcasts.{waits_in}
+use Rattle.cred_cast.specs.Broadcasts.{AreBroadcasts}
 use Rattle.cred_cast.proofs.Joined.{joined_nowhere, joined_place}
 use Rattle.cred_cast.proofs.Kept.{are_joined}
 use Rattle.cred_cast.proofs.casts.Casts.join.Goals as goal

@@ -7,7 +7,7 @@ use Rattle.cred_turn.specs.Seen.{pass}
 use Rattle.cred_book.specs.Book.{Recorded}
 use Rattle.cred_kernel.specs.Advances.{Advanced, after_step}
 use Rattle.cred_kernel.specs.Locks.{numbers_in}
-use Rattle.cred_kernel.specs.Turns.{Seen}
+use Rattle.cred_kernel.specs.Turns.{SeenTurn}
 use Rattle.cred_kernel.proofs.LaterLoans.{locked_after}
 use Rattle.cred_kernel.proofs.Returned.{entered_few, its_numbers, is_back}
 use Rattle.cred_kernel.proofs.Stepping.{advanced, moved, seen, IsMoved}
@@ -39,7 +39,7 @@ invariant_of-self g c =
     let was : numbers ≡ numbers_in book lane
     = its_numbers book c.self.inside.roll.rows g.K.Name.roll lane numbers c.in-Some.pass c.self.invariant.lent back
     c.take-2.ensures.lane c.take-2.ensures.was in
-    let home = ap (λ (t : Seen). t.numbers.out) c.turn.view_is ∙ c.requires.out in
+    let home = ap (λ (t : SeenTurn). t.numbers.out) c.turn.view_is ∙ c.requires.out in
     let its : IsMoved book after lane now
     = subst (λ (n : LaneNumbers). IsMoved book after lane n)
     (sym (c.after_step-turn-inside.ensures ∙ ap (λ (e : ℕ). after_step numbers e step) c.ended.ensures))
@@ -67,13 +67,13 @@ returns-clause-step g c =
     let was : numbers ≡ numbers_in book lane
     = its_numbers book c.self.inside.roll.rows g.K.Name.roll lane numbers c.in-Some.pass c.self.invariant.lent back
     c.take-2.ensures.lane c.take-2.ensures.was in
-    let home = ap (λ (t : Seen). t.numbers.out) c.turn.view_is ∙ c.requires.out in
+    let home = ap (λ (t : SeenTurn). t.numbers.out) c.turn.view_is ∙ c.requires.out in
     let own = c.next-step.ensures.cells ∙ c.self.invariant.cells_are in
     let not_setup : lane ≢ 0 = λ zero. omega (arith, zero, c.turn.invariant.is_lane.0) in
     let files = c.next-step.ensures.files not_setup ∙ c.self.invariant.infos_are in
     let made = advanced infos cells book after lane numbers (next book.script book.journal lane) step was home c.next-step.ensures.script own files
     c.self.invariant.set_up c.next-step.ensures.made c.next-step.ensures.counts c.next-step.ensures.err in
-    subst (λ (t : Seen). IfOk step (Advanced script infos cells t (seen lane now))) c.turn.view_is
+    subst (λ (t : SeenTurn). IfOk step (Advanced script infos cells t (seen lane now))) c.turn.view_is
     (subst (λ (s : Script). IfOk step (Advanced s infos cells (seen lane numbers) (seen lane now))) c.self.invariant.script_is
     (subst (λ (n : LaneNumbers). IfOk step (Advanced book.script infos cells (seen lane numbers) (seen lane n)))
     (sym (c.after_step-turn-inside.ensures ∙ ap (λ (e : ℕ). after_step numbers e step) c.ended.ensures)) made))

@@ -5,7 +5,7 @@ use Rattle.cred_model.specs.State.{Changed, Prepared}
 use Rattle.cred_model.specs.Moves.{with_current}
 use Rattle.cred_model.specs.Step.{is_access}
 use Rattle.cred_model.proofs.Places.{find-at}
-use Rattle.cred_model.specs.Casts.{broadcasts_left}
+use Rattle.cred_model.specs.Broadcasts.{broadcasts_left}
 use Rattle.cred_slots.specs.Table.{Table}
 use Rattle.cred_procs.specs.Tasks.{task_in}
 use Rattle.cred_tables.specs.Kept.{SealsKept, as_parts, state_of}

@@ -1,6 +1,6 @@
 use Rattle.std.proofs.Common.{sym, refl, ◌∙◌}
 use Rattle.cred_model.specs.Ends.{is_task}
-use Rattle.cred_model.specs.Casts.{waits_no_more}
+use Rattle.cred_model.specs.Broadcasts.{waits_no_more}
 use Rattle.cred_state.proofs.Broadcasts.{kept_beside}
 use Rattle.cred_tables.proofs.Ending.{drops_all, left-held, ended_kept, exit_done}
 use Rattle.cred_state.proofs.Overrides.{alive_is}

@@ -3,7 +3,7 @@ use Rattle.std.specs.Prelude.{◌≡◌, ◌≢◌, ℕ, ◌<◌, ◌==◌, true
 use Rattle.std.specs.declared.option.Option.{Option}
 use Rattle.std.specs.List.{AllPairs}
 use Rattle.cred_model.specs.State.{Broadcast}
-use Rattle.cred_model.specs.Casts.{is_open, SharesNone}
+use Rattle.cred_model.specs.Broadcasts.{is_open, SharesNone}
 
 -- the broadcast of this number
 abbrev pub broadcast_under : List Broadcast → ℕ → Option Broadcast
@@ -17,7 +17,7 @@ broadcast_within broadcasts process = find (λ b. b.process == process) broadcas
 abbrev pub broadcast_by : List Broadcast → ℕ → Option Broadcast
 broadcast_by broadcasts task = find (λ b. b.caller == task) broadcasts
 
--- No two have one number, no two are open in one process, and no task waits in two. In each
+-- No two share a number, no two are open in one process, and no task waits in two. In each
 -- somebody waits: those tasks in rising order, none of them twice.
 pub record AreBroadcasts (broadcasts : List Broadcast) : Type 0 where
   pub numbers : AllPairs (λ a b. a.number ≢ b.number) broadcasts

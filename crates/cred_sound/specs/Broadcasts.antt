@@ -3,7 +3,7 @@ use Rattle.std.specs.Prelude.{◌≡◌, ℕ, ◌<◌, ◌==◌, true, false, Li
 use Rattle.std.specs.List.{AllPairs}
 use Rattle.std.specs.Option.{option_map}
 use Rattle.cred_model.specs.State.{Task, Broadcast}
-use Rattle.cred_model.specs.Casts.{waits_in, is_open}
+use Rattle.cred_model.specs.Broadcasts.{waits_in, is_open}
 
 -- a live thread of this process
 abbrev pub IsThread : List Task → ℕ → ℕ → Type 0

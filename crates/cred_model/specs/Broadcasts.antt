@@ -40,7 +40,7 @@ is_open broadcast = not (length broadcast.waiting == 0)
 abbrev pub with_broadcast : List Broadcast → Broadcast → List Broadcast
 with_broadcast broadcasts broadcast = broadcasts ++ filter is_open (broadcast ∷ [])
 
--- a broadcast in which this task doesn't wait
+-- the broadcast, where this task waits no longer
 abbrev pub without_waiter : ℕ → Broadcast → Broadcast
 without_waiter task broadcast =
     record broadcast { waiting = filter (λ n. not (n == task)) broadcast.waiting }
@@ -49,13 +49,14 @@ without_waiter task broadcast =
 abbrev pub waits_no_more : ℕ → List Broadcast → List Broadcast
 waits_no_more task broadcasts = filter is_open (map (without_waiter task) broadcasts)
 
--- a broadcast in which a new thread waits, if the thread that created it does
+-- the broadcast, where a new thread waits if the thread that created it does
 abbrev pub with_child : ℕ → ℕ → Broadcast → Broadcast
 with_child parent child broadcast =
     if waits_in parent broadcast
     then record broadcast { waiting = in_order (broadcast.waiting ++ child ∷ []) }
     else broadcast
 
+-- each of them so
 abbrev pub joined : ℕ → ℕ → List Broadcast → List Broadcast
 joined parent child broadcasts = map (with_child parent child) broadcasts
 
