@@ -74,17 +74,8 @@ fn word_end(bytes: &[u8]) -> usize
     ensures found { result < length bytes.now
         → spec.is_word_byte (slice_index bytes.now result) ≡ false }
 {
-    for (place, byte) in bytes.iter().enumerate() {
-        if !is_word_byte(*byte) {
-            return place;
-        }
-    }
-    bytes.len()
-}
-
-/// Printable, and no space.
-fn is_word_byte(byte: u8) -> bool
-    ensures { result ≡ spec.is_word_byte byte }
-{
-    33 <= byte && byte <= 126
+    bytes
+        .iter()
+        .position(|byte| !byte.is_ascii_graphic())
+        .unwrap_or(bytes.len())
 }

@@ -91,12 +91,10 @@ fn line_end(bytes: &[u8]) -> usize
     ensures before { (k : ℕ) → k < result → slice_index bytes.now k ≢ 10 }
     ensures found { result < length bytes.now → slice_index bytes.now result ≡ 10 }
 {
-    for (place, byte) in bytes.iter().enumerate() {
-        if *byte == b'\n' {
-            return place;
-        }
-    }
-    bytes.len()
+    bytes
+        .iter()
+        .position(|byte| *byte == b'\n')
+        .unwrap_or(bytes.len())
 }
 
 /// The place of the first byte outside 0x20 to 0x7E, or the length where there is none.
@@ -105,12 +103,10 @@ fn printable_end(bytes: &[u8]) -> usize
     ensures before { (k : ℕ) → k < result
         → spec.is_printable_byte (slice_index bytes.now k) ≡ true }
 {
-    for (place, byte) in bytes.iter().enumerate() {
-        if !is_printable_byte(*byte) {
-            return place;
-        }
-    }
-    bytes.len()
+    bytes
+        .iter()
+        .position(|byte| !is_printable_byte(*byte))
+        .unwrap_or(bytes.len())
 }
 
 /// Whether each byte of a line is from 0x20 to 0x7E.
