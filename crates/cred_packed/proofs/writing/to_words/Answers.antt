@@ -17,10 +17,11 @@ loop-i-init c =
     let long : length first ≡ GROUPS = ap length is ∙ length-take-le GROUPS ws (omega arith) in
     let blank : after ≡ replicate (WORDS - GROUPS) 0 = ap (drop GROUPS) c.blank-words.ensures ∙ drop-replicate GROUPS WORDS 0 in
     let others : length after ≡ WORDS - GROUPS = ap length blank ∙ length-replicate {A = ℕ} (WORDS - GROUPS) 0 in
-    let all = length-append first after in (
+    let all = length-append first after in
+    let zeros = subst (Blank 0) (sym blank) (blank-replicate (WORDS - GROUPS)) in (
       omega arith,
       take-append-le GROUPS first after (omega arith) ∙ take_all GROUPS first (omega arith) ∙ is,
-      λ k from. get_or-append_right first after GROUPS k 0 long from ∙ subst (Blank 0) (sym blank) (blank-replicate (WORDS - GROUPS)) (k - GROUPS) (omega arith),
+      λ k from. get_or-append_right first after GROUPS k 0 long from ∙ zeros (k - GROUPS) (omega arith),
     )
 
 pub loop-i-preserved : goal.loop-i-preserved
