@@ -3,13 +3,14 @@ ghost use Rattle.cred_spelling.specs.Read.{Says, nows};
 ghost use Rattle.cred_grammar.specs.FileCalls as spec;
 ghost use Rattle.cred_grammar.specs.ReadAnswers.{GivesLine};
 
+use crate::hex_word::hex_word;
 use crate::named::file_at;
 use crate::refusal::LineRefusal;
 use cred_event::FileCall;
 use cred_ids::Arg;
 use cred_record::Attr;
 use cred_script::DeclaredFiles;
-use cred_spelling::{FileCallName, Reason, bytes_of, mode_of, two};
+use cred_spelling::{FileCallName, Reason, mode_of, two};
 use std::alloc::Global;
 
 /// A call on a file, by its name, with its arguments. The file is given by its place, from 0 to
@@ -88,13 +89,8 @@ fn set_attr_of(
     match words {
         [name, digits] => {
             let file = file_at(files, name)?;
-            match bytes_of(alloc, digits)? {
-                Some(bytes) => Ok(FileCall::SetAttr {
-                    file,
-                    attr: Some(Attr::from_vec(bytes)),
-                }),
-                None => Err(LineRefusal::Bad(Reason::Word)),
-            }
+            let attr = Some(Attr::from_vec(hex_word(alloc, digits)?));
+            Ok(FileCall::SetAttr { file, attr })
         }
         _ => Err(LineRefusal::Bad(Reason::Count)),
     }

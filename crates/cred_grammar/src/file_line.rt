@@ -3,11 +3,12 @@ ghost use Rattle.cred_spelling.specs.Read.{nows};
 ghost use Rattle.cred_grammar.specs.Files as spec;
 ghost use Rattle.cred_grammar.specs.ReadAnswers.{GivesLine};
 
+use crate::hex_word::hex_word;
 use crate::refusal::LineRefusal;
 use cred_ids::{Id, limits};
 use cred_record::{Attr, FileInfo, FileKind};
 use cred_script::{DeclaredFiles, ScriptFile};
-use cred_spelling::{Reason, bytes_of, is, mode_of, name_of, three};
+use cred_spelling::{Reason, is, mode_of, name_of, three};
 use std::alloc::Global;
 
 /// The fewest words after the first one of such a line.
@@ -98,10 +99,7 @@ fn attr_of(alloc: Global, words: &[&[u8]]) -> Result<Option<Attr>, LineRefusal>
             if !is(word, "caps") {
                 return Err(LineRefusal::Bad(Reason::Word));
             }
-            match bytes_of(alloc, digits)? {
-                Some(bytes) => Ok(Some(Attr::from_vec(bytes))),
-                None => Err(LineRefusal::Bad(Reason::Word)),
-            }
+            Ok(Some(Attr::from_vec(hex_word(alloc, digits)?)))
         }
         _ => Err(LineRefusal::Bad(Reason::Word)),
     }

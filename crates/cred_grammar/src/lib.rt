@@ -19,6 +19,7 @@ mod changes;
 mod file_calls;
 mod file_line;
 mod forms;
+mod hex_word;
 mod id_calls;
 mod modes;
 mod named;

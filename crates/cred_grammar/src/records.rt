@@ -3,9 +3,10 @@ ghost use Rattle.cred_grammar.specs.Records as spec;
 ghost use Rattle.cred_grammar.specs.ReadAnswers.{GivesLine};
 ghost use Rattle.cred_spelling.specs.Words.{word_of};
 
+use crate::hex_word::hex_word;
 use crate::refusal::LineRefusal;
 use cred_capdata::{CapData, read_data};
-use cred_spelling::{Reason, bytes_of};
+use cred_spelling::Reason;
 use std::alloc::Global;
 
 /// The record that the word spells, where it is about 0, the caller, or about the task.
@@ -17,10 +18,7 @@ use std::alloc::Global;
 pub(crate) fn record_of(alloc: Global, task: u32, word: &[u8]) -> Result<CapData, LineRefusal>
     ensures { GivesLine (λ made. made) result (word_of (spec.record_of task) word.now) }
 {
-    let Some(bytes) = bytes_of(alloc, word)? else {
-        return Err(LineRefusal::Bad(Reason::Word));
-    };
-    match read_data(&bytes) {
+    match read_data(&hex_word(alloc, word)?) {
         Ok(data) if data.target == 0 || data.target == task => Ok(data),
         _ => Err(LineRefusal::Bad(Reason::Word)),
     }

@@ -223,9 +223,7 @@ fn head_of(words: &[u64; WORDS]) -> [u64; GROUPS]
     ensures { result ≡ take GROUPS words.now }
 {
     let mut head = [0; GROUPS];
-    for place in 0..GROUPS {
-        head[place] = words[place];
-    }
+    head.copy_from_slice(&words[..GROUPS]);
     head
 }
 

@@ -116,11 +116,8 @@ fn blank<const N: usize>() -> [u64; N]
 pub fn to_words(cred: &Cred) -> [u64; WORDS]
     ensures { result ≡ words_of cred.now }
 {
-    let first = head(cred);
     let mut words = blank::<WORDS>();
-    for place in 0..GROUPS {
-        words[place] = first[place];
-    }
+    words[..GROUPS].copy_from_slice(&head(cred));
     for i in 0..words_of_groups(cred) {
         words[GROUPS + i] = word_of_groups(cred, i);
     }

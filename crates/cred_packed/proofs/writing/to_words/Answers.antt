@@ -1,35 +1,28 @@
-use Rattle.std.proofs.Common.{◌≡◌, ◌+◌, ℕ, List, take, slice_index, length, length-set, refl, ap, sym, ◌∙◌, subst, arith}
+use Rattle.std.proofs.Common.{◌≡◌, ◌+◌, ◌-◌, ℕ, take, drop, replicate, length, length-set, ap, sym, ◌∙◌, subst, arith}
 use Rattle.std.specs.Prelude.{slice_set}
-use Rattle.std.proofs.lemmas.List.{get_or-take, length-replicate}
+use Rattle.std.proofs.lemmas.List.{length-append, length-replicate, length-take-le, drop-replicate, take-append-le, take_all, get_or-append_right}
 use Rattle.cred_record.specs.Words.{words_of}
 use Rattle.cred_record.specs.declared.layout.TheConstants.{WORDS, GROUPS}
 use Rattle.cred_record.proofs.WordLemmas.{length-words_of, filled}
 use Rattle.cred_record.proofs.Blank.{Blank, blank-replicate, blank-set, completed, blank-words_of}
 use Rattle.cred_packed.proofs.writing.to_words.Goals as goal
 
-pub loop-place-init : goal.loop-place-init
-loop-place-init c =
-    let is = c.blank-words.ensures in
-    (ap length is ∙ length-replicate {A = ℕ} WORDS 0, refl, subst (Blank 0) (sym is) (blank-replicate WORDS))
-
-pub loop-place-preserved : goal.loop-place-preserved
-loop-place-preserved c =
-    let i = c.loop-place.invariant in
-    let n = c.loop-place.place in
-    let ws = words_of c.args.cred.now in
-    let wide = length-words_of c.args.cred.now in
-    let below = c.loop-place-test.true in
-    let word = slice_index c.head-first.result n in
-    let is = ap (λ (xs : List ℕ). slice_index xs n) c.head-first.ensures ∙ get_or-take GROUPS ws n 0 below in
-    (length-set _ _ _ ∙ i.0, filled c.loop-place.words ws n word (omega arith) (omega arith) i.1 is, blank-set c.loop-place.words n word i.2)
-
 pub loop-i-init : goal.loop-i-init
 loop-i-init c =
-    let i = c.loop-place.invariant in
     let ws = words_of c.args.cred.now in
-    let past = c.loop-place-test.false in
-    let at : c.loop-place.place ≡ GROUPS + 0 = omega arith in
-    (i.0, subst (λ (m : ℕ). take m c.loop-place.words ≡ take m ws) at i.1, subst (λ (m : ℕ). Blank m c.loop-place.words) at i.2)
+    let wide = length-words_of c.args.cred.now in
+    let first = c.copy_from_slice.new.self in
+    let after = drop GROUPS c.blank-words.result in
+    let is : first ≡ take GROUPS ws = c.copy_from_slice.ensures.after ∙ c.head.ensures in
+    let long : length first ≡ GROUPS = ap length is ∙ length-take-le GROUPS ws (omega arith) in
+    let blank : after ≡ replicate (WORDS - GROUPS) 0 = ap (drop GROUPS) c.blank-words.ensures ∙ drop-replicate GROUPS WORDS 0 in
+    let others : length after ≡ WORDS - GROUPS = ap length blank ∙ length-replicate {A = ℕ} (WORDS - GROUPS) 0 in
+    let all = length-append first after in
+    let zeros = subst (Blank 0) (sym blank) (blank-replicate (WORDS - GROUPS)) in (
+      omega arith,
+      take-append-le GROUPS first after (omega arith) ∙ take_all GROUPS first (omega arith) ∙ is,
+      λ k from. get_or-append_right first after GROUPS k 0 long from ∙ zeros (k - GROUPS) (omega arith),
+    )
 
 pub loop-i-preserved : goal.loop-i-preserved
 loop-i-preserved c =

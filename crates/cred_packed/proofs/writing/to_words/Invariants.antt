@@ -4,8 +4,5 @@ use Rattle.cred_record.specs.Words.{words_of}
 use Rattle.cred_record.proofs.Blank.{Blank}
 use Rattle.cred_packed.proofs.writing.to_words.Given as goal
 
-abbrev pub invariant-loop-place : goal.invariant-loop-place
-invariant-loop-place l = (length l.words ≡ WORDS) × (take l.place l.words ≡ take l.place (words_of l.cred)) × Blank l.place l.words
-
 abbrev pub invariant-loop-i : goal.invariant-loop-i
 invariant-loop-i l = (length l.words ≡ WORDS) × (take (GROUPS + l.i) l.words ≡ take (GROUPS + l.i) (words_of l.cred)) × Blank (GROUPS + l.i) l.words
