@@ -92,12 +92,17 @@ def not_for_a_kernel(case):
 HOLDER = None
 
 
-def begin(built, place, words, workers):
-    """In a worker: it has a driver of its own, and ends where its parent does."""
-    global HOLDER
+def end_with_parent():
+    """In a worker: it ends where its parent does, and at once by a signal."""
     die_with_parent()
     for number in ENDING:
         signal.signal(number, signal.SIG_DFL)
+
+
+def begin(built, place, words, workers):
+    """In a worker: it has a driver of its own, and ends where its parent does."""
+    global HOLDER
+    end_with_parent()
     sys.stdin.close()
     stay_on_one_processor(workers)
     try:
@@ -272,7 +277,7 @@ def check_wrong(words, workers):
     given = given_by(words, Outcome(), Place())
     SCRIPTS.extend(sorted(given, key=lambda it: len(it[1])))
     missed = 0
-    with get_context("fork").Pool(workers) as pool:
+    with get_context("fork").Pool(workers, end_with_parent) as pool:
         for name in filter(None, pool.imap(misses, SCRIPTS, 4)):
             print(f"cases: {name}: the rules of share/kernel say otherwise")
             return SAME
@@ -280,6 +285,9 @@ def check_wrong(words, workers):
             missed += name is None
             if name is None or not words.count:
                 print(f"cases: {what}: {f'{name}: {told}' if name else 'not found'}", flush=True)
+        # One that is ended while it holds the lock of the tasks leaves the others waiting for it.
+        pool.close()
+        pool.join()
     print(f"cases: {len(wrong.WRONG)} wrong kernels, {missed} not found")
     return SAME if missed else 0
 
