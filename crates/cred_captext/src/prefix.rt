@@ -3,7 +3,8 @@ ghost use Rattle.std.specs.Prelude.{◌≡◌, ◌≤◌, ◌∷◌, ◌++◌, �
 ghost use Rattle.std.specs.Prelude.{slice_get, IsTrue};
 ghost use Rattle.std.specs.Prelude.{Some, None, if◌then◌else◌};
 ghost use Rattle.std.specs.Char.{to_ascii_lowercase};
-ghost use Rattle.cred_captext.specs.Names.{lowercase_name, cap_of_lowercase_name, begins_with, begins_name};
+ghost use Rattle.cred_captext.specs.Names.{lowercase_name, cap_of_lowercase_name};
+ghost use Rattle.cred_captext.specs.Names.{begins_with, begins_name};
 
 use cred_caps::{Cap, cap_name};
 use std::marker::Model;
@@ -38,7 +39,8 @@ pub fn capitals(cap: Cap) -> &'static [u8]
 /// Whether the first `count` bytes of the two names are the same.
 fn share(one: Cap, other: Cap, count: usize) -> bool
     requires { count ≤ length (lowercase_name one) }
-    ensures { IsTrue result ↔ (take count (lowercase_name other) ≡ take count (lowercase_name one)) }
+    ensures { IsTrue result
+        ↔ (take count (lowercase_name other) ≡ take count (lowercase_name one)) }
 {
     let one = capitals(one);
     let other = capitals(other);
