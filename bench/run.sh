@@ -72,10 +72,10 @@ row script entries 'proved s, KiB' 'plain s, KiB' 'mark, KiB' \
 for name in calls changes holds checks broadcast; do
   "$proved" run < "$dir/$name" > "$dir/report"
   case $name in
-    calls) mark=41.3 ;;
-    changes) mark=73.5 ;;
-    holds) mark=21.7 ;;
-    checks) mark=51.2 ;;
+    calls) mark=40.7 ;;
+    changes) mark=73.1 ;;
+    holds) mark=21.4 ;;
+    checks) mark=50.3 ;;
     broadcast) mark=122.4 ;;
   esac
   ours=$(seconds "$proved" "$name")
