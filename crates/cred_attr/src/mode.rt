@@ -1,5 +1,5 @@
 //! chmod(2), and the bits of a mode.
-ghost use Rattle.std.specs.Prelude.{◌≡◌, ◌≤◌, IfOk};
+ghost use Rattle.std.specs.Prelude.{◌≡◌, ◌≤◌};
 ghost use Rattle.cred_record.specs.Answer.{AnswersBy};
 ghost use Rattle.cred_record.specs.File.{IsMode};
 ghost use Rattle.cred_rules.specs.Files.{may_chmod, given_mode, chmod};
@@ -8,8 +8,7 @@ ghost use Rattle.cred_rules.specs.Modes as modes;
 use crate::rights::{in_group, owns};
 use cred_access::capable;
 use cred_caps::Cap;
-use cred_ids::NoMemory;
-use cred_record::{Attr, Cred, FileInfo, Refusal};
+use cred_record::{Cred, FileInfo, Refusal, copy_attr};
 
 /// The set-user-ID bit.
 pub const SET_USER: u16 = 0o4000;
@@ -40,20 +39,6 @@ pub fn without(mode: u16, bits: u16) -> u16
     ensures small { result ≤ mode }
 {
     mode & (LAST - bits)
-}
-
-/// An equal attribute in memory of its own.
-///
-/// # Errors
-///
-/// `NoMemory` if the allocation of the copy fails.
-pub fn copied(attr: &Option<Attr>) -> Result<Option<Attr>, NoMemory>
-    ensures { IfOk result (λ copy. copy ≡ attr.now) }
-{
-    match attr {
-        Some(bytes) => Ok(Some(bytes.copy()?)),
-        None => Ok(None),
-    }
 }
 
 /// Whether the task may change the file's mode.
@@ -97,6 +82,6 @@ pub fn chmod(cred: &Cred, file: &FileInfo, mode: u16) -> Result<FileInfo, Refusa
         group: file.group,
         mode: given_mode(cred, file, mode),
         nosuid: file.nosuid,
-        attr: copied(&file.attr)?,
+        attr: copy_attr(&file.attr)?,
     })
 }

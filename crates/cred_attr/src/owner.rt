@@ -5,12 +5,12 @@ ghost use Rattle.cred_record.specs.File.{IsMode};
 ghost use Rattle.cred_rules.specs.Files as spec;
 ghost use Rattle.cred_rules.specs.SetId.{is_given};
 
-use crate::mode::{EXECUTE, GROUP_EXECUTE, SET_GROUP, SET_USER, copied, has_any, without};
+use crate::mode::{EXECUTE, GROUP_EXECUTE, SET_GROUP, SET_USER, has_any, without};
 use crate::rights::{in_group, owns};
 use cred_access::capable;
 use cred_caps::Cap;
 use cred_ids::{Arg, Id, NoMemory};
-use cred_record::{Attr, Cred, FileInfo, FileKind, Refusal};
+use cred_record::{Attr, Cred, FileInfo, FileKind, Refusal, copy_attr};
 
 /// The id that an argument leaves.
 fn chosen(old: Id, arg: &Arg) -> Id
@@ -98,7 +98,7 @@ fn attr_left(file: &FileInfo, strips: bool) -> Result<Option<Attr>, NoMemory>
     if strips {
         return Ok(None);
     }
-    copied(&file.attr)
+    copy_attr(&file.attr)
 }
 
 /// The file with another owner and group, as chown(2) gives it. Where one of the two is given, a

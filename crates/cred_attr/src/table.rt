@@ -3,9 +3,8 @@ ghost use Rattle.std.specs.Prelude.{◌≡◌, ◌<◌, ◌∷◌, ◌++◌, [],
 ghost use Rattle.std.specs.Prelude.{slice_set};
 ghost use Rattle.std.specs.Option.{option_copied};
 
-use crate::mode::copied;
 use cred_ids::NoMemory;
-use cred_record::FileInfo;
+use cred_record::{FileInfo, copy_attr};
 use std::alloc::Global;
 use std::marker::Model;
 
@@ -38,7 +37,7 @@ fn copy(file: &FileInfo) -> Result<FileInfo, NoMemory>
         group: file.group,
         mode: file.mode,
         nosuid: file.nosuid,
-        attr: copied(&file.attr)?,
+        attr: copy_attr(&file.attr)?,
     })
 }
 

@@ -52,7 +52,7 @@ fn compare(
     let mut rest = report;
     let mut entry = 1;
     'entries: while !rest.is_empty() {
-        let Some(after) = behind_next(run, pen, script, rest)? else {
+        let Some(after) = rest_after_next(run, pen, script, rest)? else {
             return Ok(Verdict::NotLegal { entry });
         };
         rest = after;
@@ -67,7 +67,7 @@ fn compare(
 
 /// Makes the next event of the lane whose line's number the bytes begin with, and returns what
 /// follows the text of its entry; none where the bytes do not begin with it.
-fn behind_next<'b>(
+fn rest_after_next<'b>(
     run: &mut Run,
     pen: &mut Pen,
     script: &Script,
@@ -83,11 +83,11 @@ fn behind_next<'b>(
     let Some(next) = run.next(script, lane)? else {
         return Ok(None);
     };
-    behind(pen, script, bytes, &next)
+    rest_after(pen, script, bytes, &next)
 }
 
 /// What follows the text of the entry, with which the bytes are to begin; none where they do not.
-fn behind<'b>(
+fn rest_after<'b>(
     pen: &mut Pen,
     script: &Script,
     bytes: &'b [u8],

@@ -4,7 +4,7 @@ ghost use Rattle.cred_copies.specs.Lists.{EventHoldsList, IsOnFile, MayHoldList}
 
 use cred_event::Event;
 use cred_ids::NoMemory;
-use cred_record::Attr;
+use cred_record::copy_attr;
 
 /// An equal event.
 ///
@@ -68,21 +68,6 @@ fn copy_on_file(e: &Event) -> Result<Event, NoMemory>
         },
         _ => unreachable!(),
     })
-}
-
-/// An equal attribute, or none.
-///
-/// # Errors
-///
-/// `NoMemory` where its bytes could not be copied.
-pub fn copy_attr(attr: &Option<Attr>) -> Result<Option<Attr>, NoMemory>
-    ensures equal { IfOk result (λ copied. copied ≡ attr.now) }
-    ensures refusal { OnErr result (IsSome attr.now) }
-{
-    match attr {
-        Some(bytes) => Ok(Some(bytes.copy()?)),
-        None => Ok(None),
-    }
 }
 
 /// An equal event, of one that is no id call and no call on a file.

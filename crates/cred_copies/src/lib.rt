@@ -7,4 +7,4 @@ mod answer;
 mod event;
 
 pub use answer::copy_answer;
-pub use event::{copy_attr, copy_event};
+pub use event::copy_event;

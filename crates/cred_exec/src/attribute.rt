@@ -16,7 +16,7 @@ const SET_USER_ID: u32 = 11;
 const SET_GROUP_ID: u32 = 10;
 
 /// The place of the execute bit of the group.
-const GROUP_EXECUTE: u32 = 3;
+const GROUP_EXECUTE_PLACE: u32 = 3;
 
 /// Whether the set-id bits and the attribute have effect: not under no_new_privs, and not where the
 /// file system is mounted nosuid.
@@ -38,7 +38,9 @@ pub fn sets_user(cred: &Cred, file: &FileInfo) -> bool
 pub fn sets_group(cred: &Cred, file: &FileInfo) -> bool
     ensures { result ≡ sets_group cred.now file.now }
 {
-    has_effect(cred, file) && has_bit(file.mode, SET_GROUP_ID) && has_bit(file.mode, GROUP_EXECUTE)
+    has_effect(cred, file)
+        && has_bit(file.mode, SET_GROUP_ID)
+        && has_bit(file.mode, GROUP_EXECUTE_PLACE)
 }
 
 /// The attribute that the bytes spell, if it counts under these root ids.

@@ -146,7 +146,7 @@ pub fn put(cells: &Cells, writer: &mut Writer, cred: &Cred)
 
 /// Forgets what was put: the slot is not sealed once the writer is taken back, as if nothing had
 /// been put. It takes no memory and waits for nobody.
-pub fn unput(writer: &mut Writer)
+pub fn forget_put(writer: &mut Writer)
     ensures { writer.new ≡ record writer.old { put = None } }
 {
     writer.put = false;

@@ -8,10 +8,9 @@ ghost use Rattle.cred_machine.specs.Written.{IsMadeBy};
 
 use crate::state::State;
 use cred_attr::{chmod, chown, set_attr};
-use cred_copies::copy_attr;
 use cred_event::{Answer, Event, Told};
 use cred_ids::NoMemory;
-use cred_record::{Cred, FileInfo, Refusal};
+use cred_record::{Cred, FileInfo, Refusal, copy_attr};
 
 /// What chown(2), chmod(2), or a call that sets the capability attribute makes of a file.
 ///

@@ -22,11 +22,11 @@ use Rattle.cred_reader.proofs.Numbers.{long_number, number_back, decimal_plain}
 use Rattle.cred_reader.proofs.Words.{is_plain, is_whole, plain_whole, all_whole, spaced, spaced-append, words_back, arrow_back}
 
 -- the words after the number of the line
-abbrev behind : List (List ℕ) → List (List ℕ) → List (List ℕ)
-behind es vs = es ++ (codes "->" ∷ vs)
+abbrev joined_by_arrow : List (List ℕ) → List (List ℕ) → List (List ℕ)
+joined_by_arrow es vs = es ++ (codes "->" ∷ vs)
 
-behind_whole : (es vs : List (List ℕ)) → list_all is_plain es ≡ true → list_all is_plain vs ≡ true → list_all is_whole (behind es vs) ≡ true
-behind_whole es vs e v =
+joined_by_arrow_whole : (es vs : List (List ℕ)) → list_all is_plain es ≡ true → list_all is_plain vs ≡ true → list_all is_whole (joined_by_arrow es vs) ≡ true
+joined_by_arrow_whole es vs e v =
     rw (list_all-append is_whole es (codes "->" ∷ vs)) (rw (all_whole es e, all_whole vs v) refl)
 
 -- the text without LF
@@ -35,9 +35,9 @@ before_end d ev an = simp append_assoc
 
 -- the text is the words, with a space before each but the first, and LF
 as_words : (d ev an : List ℕ) (es vs : List (List ℕ)) → 32 ∷ ev ≡ spaced es → 32 ∷ an ≡ spaced vs
-    → d ++ codes " " ++ ev ++ codes " -> " ++ an ++ codes "\n" ≡ (d ++ spaced (behind es vs)) ++ codes "\n"
+    → d ++ codes " " ++ ev ++ codes " -> " ++ an ++ codes "\n" ≡ (d ++ spaced (joined_by_arrow es vs)) ++ codes "\n"
 as_words d ev an es vs e v =
-    let words : (32 ∷ ev) ++ (32 ∷ 45 ∷ 62 ∷ 32 ∷ an) ≡ spaced (behind es vs)
+    let words : (32 ∷ ev) ++ (32 ∷ 45 ∷ 62 ∷ 32 ∷ an) ≡ spaced (joined_by_arrow es vs)
     = ap (λ (t : List ℕ). t ++ (32 ∷ 45 ∷ 62 ∷ 32 ∷ an)) e
     ∙ ap (λ (t : List ℕ). spaced es ++ (32 ∷ 45 ∷ 62 ∷ t)) v
     ∙ sym (spaced-append es (codes "->" ∷ vs)) in
@@ -57,9 +57,9 @@ entry_words script entry fits =
     let es : List (List ℕ) = eb.first ∷ eb.rest in
     let vs : List (List ℕ) = ab.first ∷ ab.rest in
     record {
-      words = behind es vs;
+      words = joined_by_arrow es vs;
       number = plain_whole (decimal entry.line) (decimal_plain entry.line (long_number entry.line fits.line));
-      whole = behind_whole es vs eb.plain ab.plain;
+      whole = joined_by_arrow_whole es vs eb.plain ab.plain;
       is = as_words (decimal entry.line) _ _ es vs eb.spaced ab.spaced;
     }
 
@@ -71,11 +71,11 @@ body_back text =
 
 entry_from : (files : List NamedFile) (line : ℕ) (event : Event) (answer : Answer) (es vs : List (List ℕ)) → IsNumber line
     → list_all is_plain es ≡ true → read_event files es ≡ Ok event → read_answer (told_by event) vs ≡ Ok answer
-    → read_entry files (decimal line ∷ behind es vs) ≡ Ok (record { line = line; event = event; answer = answer })
+    → read_entry files (decimal line ∷ joined_by_arrow es vs) ≡ Ok (record { line = line; event = event; answer = answer })
 unfolding read_entry
 entry_from files line event answer es vs small plain e v =
-    let prefix_is : take (length es) (behind es vs) ≡ es = take_at es (codes "->" ∷ vs) (length es) refl in
-    let back : drop (length es + 1) (behind es vs) ≡ vs = drop-append-add es (codes "->" ∷ vs) 1 in
+    let prefix_is : take (length es) (joined_by_arrow es vs) ≡ es = take_at es (codes "->" ∷ vs) (length es) refl in
+    let back : drop (length es + 1) (joined_by_arrow es vs) ≡ vs = drop-append-add es (codes "->" ∷ vs) 1 in
     rw (number_back line small, arrow_back es vs plain, prefix_is, e, back, v) refl
 
 -- the words of a fitting entry's text are read as the entry
@@ -86,11 +86,11 @@ entry_back script entry fits =
     let es : List (List ℕ) = eb.first ∷ eb.rest in
     let vs : List (List ℕ) = ab.first ∷ ab.rest in
     let text = as_words (decimal entry.line) _ _ es vs eb.spaced ab.spaced in
-    let body : body_of (entry_text script entry) ≡ decimal entry.line ++ spaced (behind es vs)
-    = ap body_of text ∙ body_back (decimal entry.line ++ spaced (behind es vs)) in
+    let body : body_of (entry_text script entry) ≡ decimal entry.line ++ spaced (joined_by_arrow es vs)
+    = ap body_of text ∙ body_back (decimal entry.line ++ spaced (joined_by_arrow es vs)) in
     let split =
-    words_back (decimal entry.line) (behind es vs) (plain_whole (decimal entry.line) (decimal_plain entry.line (long_number entry.line fits.line)))
-    (behind_whole es vs eb.plain ab.plain) in
+    words_back (decimal entry.line) (joined_by_arrow es vs) (plain_whole (decimal entry.line) (decimal_plain entry.line (long_number entry.line fits.line)))
+    (joined_by_arrow_whole es vs eb.plain ab.plain) in
     ap (λ (b : List ℕ). read_entry script.files (line_words b)) body
     ∙ ap (read_entry script.files) split
     ∙ entry_from script.files entry.line entry.event entry.answer es vs fits.line eb.plain eb.read ab.read

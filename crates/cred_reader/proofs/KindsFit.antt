@@ -71,27 +71,27 @@ set_fits word =
     any_some (Some x) = tt
     any_some None = tt
 
-pub behind_fits : (P : ℕ → Type 0) (letter : ℕ) (spelled : List ℕ → Option ℕ) → OfAll P spelled → OfAll P (kinds.behind letter spelled)
-behind_fits P letter spelled all [] = tt
-behind_fits P letter spelled all (first ∷ digits) = either_holds P (first == letter) _ None (all digits) tt
+pub number_after_fits : (P : ℕ → Type 0) (letter : ℕ) (spelled : List ℕ → Option ℕ) → OfAll P spelled → OfAll P (kinds.number_after letter spelled)
+number_after_fits P letter spelled all [] = tt
+number_after_fits P letter spelled all (first ∷ digits) = either_holds P (first == letter) _ None (all digits) tt
 
 pub task_fits : OfAll IsNumber kinds.task_word
-task_fits word = behind_fits IsNumber 116 spelling.number_of number_fits word
+task_fits word = number_after_fits IsNumber 116 spelling.number_of number_fits word
 
 pub process_fits : OfAll IsNumber kinds.process_word
-process_fits word = behind_fits IsNumber 112 spelling.number_of number_fits word
+process_fits word = number_after_fits IsNumber 112 spelling.number_of number_fits word
 
 pub label_fits : OfAll IsNumber kinds.label_word
-label_fits word = behind_fits IsNumber 104 spelling.number_of number_fits word
+label_fits word = number_after_fits IsNumber 104 spelling.number_of number_fits word
 
 pub fd_fits : OfAll IsNumber kinds.fd_of
-fd_fits word = behind_fits IsNumber 102 spelling.number_of number_fits word
+fd_fits word = number_after_fits IsNumber 102 spelling.number_of number_fits word
 
 pub slot_fits : OfAll IsNumber kinds.slot_word
-slot_fits word = behind_fits IsNumber 115 spelling.number_of number_fits word
+slot_fits word = number_after_fits IsNumber 115 spelling.number_of number_fits word
 
 pub cred_fits : OfAll IsLong kinds.cred_of
-cred_fits word = behind_fits IsLong 99 spelling.long_of long_fits word
+cred_fits word = number_after_fits IsLong 99 spelling.long_of long_fits word
 
 within_fits : OfAll IsNamespace (spelling.number_within 0 15)
 within_fits word =

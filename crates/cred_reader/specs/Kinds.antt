@@ -8,33 +8,33 @@ use Rattle.cred_spelling.specs.Spellings.{letter, number_of, long_of}
 use Rattle.cred_spelling.specs.Table.{named}
 
 -- a letter, and what the word after it spells
-abbrev pub behind : ℕ → (List ℕ → Option ℕ) → List ℕ → Option ℕ
-behind letter spelled [] = None
-behind letter spelled (first ∷ digits) = if first == letter then spelled digits else None
+abbrev pub number_after : ℕ → (List ℕ → Option ℕ) → List ℕ → Option ℕ
+number_after letter spelled [] = None
+number_after letter spelled (first ∷ digits) = if first == letter then spelled digits else None
 
 -- a task, as `t1`
 abbrev pub task_word : List ℕ → Option ℕ
-task_word word = behind (letter (codes "t")) number_of word
+task_word word = number_after (letter (codes "t")) number_of word
 
 -- a process, as `p1`
 abbrev pub process_word : List ℕ → Option ℕ
-process_word word = behind (letter (codes "p")) number_of word
+process_word word = number_after (letter (codes "p")) number_of word
 
 -- a label, as `h100030`
 abbrev pub label_word : List ℕ → Option ℕ
-label_word word = behind (letter (codes "h")) number_of word
+label_word word = number_after (letter (codes "h")) number_of word
 
 -- a descriptor, as `f1`
 abbrev pub fd_of : List ℕ → Option ℕ
-fd_of word = behind (letter (codes "f")) number_of word
+fd_of word = number_after (letter (codes "f")) number_of word
 
 -- a slot, as `s1`
 abbrev pub slot_word : List ℕ → Option ℕ
-slot_word word = behind (letter (codes "s")) number_of word
+slot_word word = number_after (letter (codes "s")) number_of word
 
 -- a sealed credential, as `c1`
 abbrev pub cred_of : List ℕ → Option ℕ
-cred_of word = behind (letter (codes "c")) long_of word
+cred_of word = number_after (letter (codes "c")) long_of word
 
 -- a flag
 unfoldable pub flags : List (List ℕ × Bool)

@@ -8,8 +8,8 @@ use cred_caps::SecureBits;
 use cred_spelling::{Number, Spelling, long_of, mode_of, named};
 
 /// The number after a letter.
-fn behind(letter: u8, word: &[u8]) -> Option<u32>
-    ensures { result ≡ spec.behind letter number_of word.now }
+fn number_after(letter: u8, word: &[u8]) -> Option<u32>
+    ensures { result ≡ spec.number_after letter number_of word.now }
 {
     match word {
         [first, digits @ ..] if *first == letter => Number::of(digits),
@@ -26,7 +26,7 @@ impl Spelling for Task {
     ghost spelled = { spec.task_word };
 
     fn of(word: &[u8]) -> Option<u32> {
-        behind(b't', word)
+        number_after(b't', word)
     }
 }
 
@@ -39,7 +39,7 @@ impl Spelling for Process {
     ghost spelled = { spec.process_word };
 
     fn of(word: &[u8]) -> Option<u32> {
-        behind(b'p', word)
+        number_after(b'p', word)
     }
 }
 
@@ -52,7 +52,7 @@ impl Spelling for Label {
     ghost spelled = { spec.label_word };
 
     fn of(word: &[u8]) -> Option<u32> {
-        behind(b'h', word)
+        number_after(b'h', word)
     }
 }
 
@@ -65,7 +65,7 @@ impl Spelling for Fd {
     ghost spelled = { spec.fd_of };
 
     fn of(word: &[u8]) -> Option<u32> {
-        behind(b'f', word)
+        number_after(b'f', word)
     }
 }
 
@@ -78,7 +78,7 @@ impl Spelling for Slot {
     ghost spelled = { spec.slot_word };
 
     fn of(word: &[u8]) -> Option<u32> {
-        behind(b's', word)
+        number_after(b's', word)
     }
 }
 

@@ -104,8 +104,8 @@ fn read_entry(alloc: Global, script: &Script, words: &[&[u8]]) -> Result<Entry, 
         [number, words @ ..] => {
             let line = word::<Number>(number)?;
             let place = arrow(words).ok_or(Reason::Word)?;
-            let event = read_event(alloc, script, before(words, place))?;
-            let answer = read_answer(alloc, told_by(&event), behind(words, place))?;
+            let event = read_event(alloc, script, words_before(words, place))?;
+            let answer = read_answer(alloc, told_by(&event), words_after(words, place))?;
             Ok(Entry {
                 line,
                 event,
@@ -125,7 +125,7 @@ fn arrow(words: &[&[u8]]) -> Option<usize>
 }
 
 /// The words before a place.
-fn before<'b>(words: &'b [&'b [u8]], place: usize) -> &'b [&'b [u8]]
+fn words_before<'b>(words: &'b [&'b [u8]], place: usize) -> &'b [&'b [u8]]
     requires { place < length words.now }
     ensures { nows result.now ≡ take place (nows words.now) }
 {
@@ -133,7 +133,7 @@ fn before<'b>(words: &'b [&'b [u8]], place: usize) -> &'b [&'b [u8]]
 }
 
 /// The words after a place.
-fn behind<'b>(words: &'b [&'b [u8]], place: usize) -> &'b [&'b [u8]]
+fn words_after<'b>(words: &'b [&'b [u8]], place: usize) -> &'b [&'b [u8]]
     requires { place < length words.now }
     ensures { nows result.now ≡ drop (place + 1) (nows words.now) }
 {

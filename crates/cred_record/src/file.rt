@@ -1,5 +1,7 @@
 //! A file, as permission checks and execve see it.
-use cred_ids::{Bytes as Attr, Id};
+ghost use Rattle.std.specs.Prelude.{◌≡◌, IfOk, OnErr, IsSome};
+
+use cred_ids::{Bytes as Attr, Id, NoMemory};
 use std::marker::Model;
 
 /// The kinds of files that the rules tell apart (inode(7)).
@@ -44,4 +46,19 @@ impl Model for FileInfo {
     } };
 
     ghost invariant = { λ f. IsMode f.mode };
+}
+
+/// An equal attribute, or none.
+///
+/// # Errors
+///
+/// `NoMemory` where its bytes could not be copied.
+pub fn copy_attr(attr: &Option<Attr>) -> Result<Option<Attr>, NoMemory>
+    ensures equal { IfOk result (λ copied. copied ≡ attr.now) }
+    ensures refusal { OnErr result (IsSome attr.now) }
+{
+    match attr {
+        Some(bytes) => Ok(Some(bytes.copy()?)),
+        None => Ok(None),
+    }
 }

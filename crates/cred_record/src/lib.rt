@@ -18,7 +18,7 @@ pub use cred::{Cred, copy, first};
 /// The bytes of the extended attribute `security.capability` of a file (capabilities(7), "File
 /// capabilities"), as they stand there, whether or not they are well formed.
 pub use cred_ids::Bytes as Attr;
-pub use file::{FileInfo, FileKind};
+pub use file::{FileInfo, FileKind, copy_attr};
 pub use gains::Gains;
 pub use id_call::{IdCall, IdList};
 pub use layout::WORDS;

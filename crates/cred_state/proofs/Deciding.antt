@@ -121,7 +121,7 @@ chain_is cells script s label (change.Exec file) base writer ns kept right =
     ap (chain_of script) (found ∙ sym (ap (λ (h : Held). h.cred.ns) kept.base_is))
 chain_is cells script s label change.Access base writer ns kept right = tt
 
--- ---- a writer comes back unput
+-- ---- a writer comes back with nothing put
 
 -- what the words of the slot are again
 module _ (before : Standing) (base : Held) (writer : Written) (ch : Change) (made : Option (Result Made Answer))

@@ -12,11 +12,10 @@ ghost use Rattle.cred_model.specs.Step.{by_file, by_stat};
 
 use crate::state::State;
 use cred_attr::{chmod, chown, set_attr};
-use cred_copies::copy_attr;
 use cred_event::{Answer, Told};
 use cred_hold::Cells;
 use cred_ids::{Arg, NoMemory};
-use cred_record::{Attr, Cred, FileInfo, Refusal};
+use cred_record::{Attr, Cred, FileInfo, Refusal, copy_attr};
 
 impl State {
     /// The file at a place has this owner and this group from now on (chown(2)): the credential

@@ -12,7 +12,7 @@ ghost use Rattle.cred_tables.specs.Out.{AreOut};
 ghost use Rattle.cred_state.specs.TokensOut.{earlier_of, HoldsApart};
 
 use crate::state::State;
-use cred_hold::{Cells, Hold, Writer, put, unput};
+use cred_hold::{Cells, Hold, Writer, forget_put, put};
 use cred_tables::{Changed, Preparation};
 
 impl State {
@@ -82,7 +82,7 @@ impl State {
                     ..
                 },
             ) => put(cells, writer, &last.cred),
-            _ => unput(writer),
+            _ => forget_put(writer),
         }
     }
 }

@@ -10,7 +10,7 @@ returns-in_default c =
 
 pub entries-preserved : goal.entries-preserved
 entries-preserved c =
-    one_more_compared c.args.script.now c.args.report.now c.entries.rest.now c.entries.entry c.entries.run c.behind_next.new.run c.in-Some.after.now
+    one_more_compared c.args.script.now c.args.report.now c.entries.rest.now c.entries.entry c.entries.run c.rest_after_next.new.run c.in-Some.after.now
     c.entries.invariant (rw c.in-Some.is at c.in_ok-after.ensures)
 
 pub returns-else-has_ended : goal.returns-else-has_ended

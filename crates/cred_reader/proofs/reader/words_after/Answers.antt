@@ -1,7 +1,7 @@
 use Rattle.std.proofs.Common.{◌+◌, ◌∙◌, ℕ, List, Bor, ap, sym}
 use Rattle.std.proofs.lemmas.List.{drop-map, take_rest}
 use Rattle.cred_spelling.specs.Read.{nows}
-use Rattle.cred_reader.proofs.reader.behind.Goals as goal
+use Rattle.cred_reader.proofs.reader.words_after.Goals as goal
 
 pub returns : goal.returns
 returns c =

@@ -4,7 +4,7 @@ use Rattle.std.proofs.lemmas.List.{append-nil}
 use Rattle.std.proofs.lemmas.Slice.Eq.{strip_prefix_is}
 use Rattle.std.proofs.lemmas.Bool.Decides.{Decides-eqb}
 use Rattle.cred_report.specs.Text.{entry_text}
-use Rattle.cred_audit.proofs.verdict.behind.Goals as goal
+use Rattle.cred_audit.proofs.verdict.rest_after.Goals as goal
 
 pub returns : goal.returns
 returns c =
