@@ -36,9 +36,11 @@ use Rattle.cred_model.specs.Ends.{is_thread_of, ended}
 use Rattle.cred_model.specs.Broadcasts.{others_of, with_broadcast, waits_no_more}
 use Rattle.cred_model.specs.Like.{IsLike, IsOutcomeLike}
 use Rattle.cred_model.specs.Moves.{table_full, first_task, created, replaced, preparing, given_up, committed}
-use Rattle.cred_model.specs.Step.{aborted, by_file, broadcasts_after, commit_answer, committed_by, ends_with, follow, for_access, for_task, outcome}
-use Rattle.cred_model.specs.Step.{override_held}
-use Rattle.cred_model.specs.Step.{override_prepared, step, take_hold, try_commit}
+use Rattle.cred_model.specs.LabelEvents.{broadcasts_after, commit_answer, committed_by, ends_with, for_access, for_task, override_held, override_prepared}
+use Rattle.cred_model.specs.LabelEvents.{take_hold, try_commit}
+use Rattle.cred_model.specs.CallEvents.{aborted, follow}
+use Rattle.cred_model.specs.FileEvents.{by_file}
+use Rattle.cred_model.specs.Step.{outcome, step}
 use Rattle.cred_sound.proofs.Tests.{IfAllowed, outcome_has, if_some, if_none, if_either, if_fewer, if_passed, if_idle, if_own, if_last, if_file_rule, if_rule}
 use Rattle.cred_sound.proofs.Tests.{if_ok, in_slots}
 

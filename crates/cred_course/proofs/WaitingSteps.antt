@@ -24,7 +24,8 @@ use Rattle.cred_model.specs.Change.{by_rule}
 use Rattle.cred_model.specs.Course.{some_wait}
 use Rattle.cred_model.specs.Dumpable.{differs, renewed}
 use Rattle.cred_model.specs.Moves.{replaced}
-use Rattle.cred_model.specs.Step.{aborted, follow, outcome, step}
+use Rattle.cred_model.specs.CallEvents.{aborted, follow}
+use Rattle.cred_model.specs.Step.{outcome, step}
 use Rattle.cred_model.proofs.Rising.{length-in_order}
 use Rattle.cred_sound.specs.Sound.{IsSound}
 use Rattle.cred_sound.proofs.Tests.{in_slots}

@@ -2,7 +2,7 @@
 ghost use Rattle.std.specs.Prelude.{◌≡◌, IfOk};
 ghost use Rattle.std.specs.Option.{option_map};
 ghost use Rattle.cred_model.specs.Change as spec;
-ghost use Rattle.cred_model.specs.Step.{committed_by};
+ghost use Rattle.cred_model.specs.LabelEvents.{committed_by};
 ghost use Rattle.cred_rules.specs.Exec.{exec};
 
 use cred_access::access_cred;

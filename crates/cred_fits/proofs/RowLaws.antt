@@ -48,10 +48,13 @@ use Rattle.cred_model.specs.Slots.{swept_if_full, free}
 use Rattle.cred_model.specs.State.{State, Task, Numbered, Prepared, Changed, Broadcast, numbered, task_of, broadcast_of, broadcast_in, begun_by, open_of}
 use Rattle.cred_model.specs.State.{hold_of}
 use Rattle.cred_model.specs.State.{prepared_of, credential_of, opener_of, held_by, info_of}
-use Rattle.cred_model.specs.Step.{outcome, by_init, take_hold, by_take, by_take_file, by_release, by_ask, by_signal, by_prepare, by_alter, for_task, try_commit}
-use Rattle.cred_model.specs.Step.{ends_with, broadcasts_after, committed_by, commit_answer, by_commit, by_abort, for_access, override_held, override_prepared}
-use Rattle.cred_model.specs.Step.{by_override, by_revert, by_begin, aborted, follow, by_act, by_open, by_close, by_spawn, by_fork, by_exit, by_dumpable}
-use Rattle.cred_model.specs.Step.{by_dumped, by_ptrace, by_file, by_stat, by_raw}
+use Rattle.cred_model.specs.TaskEvents.{by_init, by_signal, by_spawn, by_fork, by_exit, by_dumpable, by_dumped, by_ptrace}
+use Rattle.cred_model.specs.LabelEvents.{take_hold, by_take, by_take_file, by_release, by_ask, by_prepare, by_alter, for_task, try_commit, ends_with}
+use Rattle.cred_model.specs.LabelEvents.{broadcasts_after, committed_by, commit_answer, by_commit, by_abort, for_access, override_held, override_prepared}
+use Rattle.cred_model.specs.LabelEvents.{by_override, by_revert}
+use Rattle.cred_model.specs.CallEvents.{by_begin, aborted, follow, by_act, by_raw}
+use Rattle.cred_model.specs.FileEvents.{by_open, by_close, by_file, by_stat}
+use Rattle.cred_model.specs.Step.{outcome}
 use Rattle.cred_laws.proofs.Cases.{some_case, none_case, test_case, own_case, idle_case}
 use Rattle.cred_answers.specs.CallRows as call_rows
 use Rattle.cred_answers.specs.Rows as rows

@@ -39,9 +39,10 @@ use Rattle.cred_model.specs.Slots.{refs}
 use Rattle.cred_model.specs.State.{State, SealedCred, Task, Numbered, Prepared, Changed, Broadcast, numbered, number_on, task_of, broadcast_in, begun_by}
 use Rattle.cred_model.specs.State.{open_of}
 use Rattle.cred_model.specs.State.{hold_of, prepared_of, credential_of, opener_of, held_by, info_of}
-use Rattle.cred_model.specs.Step.{by_init, take_hold, by_take, by_take_file, by_release, by_ask, by_signal, by_prepare, by_alter, is_access, for_task}
-use Rattle.cred_model.specs.Step.{try_commit, ends_with, broadcasts_after, committed_by, commit_answer, by_commit, by_dumpable, by_dumped, by_ptrace, by_file}
-use Rattle.cred_model.specs.Step.{by_stat}
+use Rattle.cred_model.specs.TaskEvents.{by_init, by_signal, by_dumpable, by_dumped, by_ptrace}
+use Rattle.cred_model.specs.LabelEvents.{take_hold, by_take, by_take_file, by_release, by_ask, by_prepare, by_alter, is_access, for_task, try_commit, ends_with}
+use Rattle.cred_model.specs.LabelEvents.{broadcasts_after, committed_by, commit_answer, by_commit}
+use Rattle.cred_model.specs.FileEvents.{by_file, by_stat}
 use Rattle.cred_model.proofs.Lists.{All-at, All-kept, All-remove, find_each, get_each}
 use Rattle.cred_model.proofs.Numbers.{updated_as, overriding_as, changed_as}
 use Rattle.cred_model.proofs.Rising.{All-in_order, All-passed}

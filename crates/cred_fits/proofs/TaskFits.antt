@@ -31,8 +31,11 @@ use Rattle.cred_model.specs.Script.{Script, root_of}
 use Rattle.cred_model.specs.State.{State, Task, Numbered, Prepared, Changed, Broadcast, numbered, task_of, broadcast_of, broadcast_in, begun_by, open_of}
 use Rattle.cred_model.specs.State.{hold_of}
 use Rattle.cred_model.specs.State.{held_by, info_of}
-use Rattle.cred_model.specs.Step.{step, is_access, by_abort, for_access, override_held, override_prepared, by_override, by_revert, by_begin, aborted, follow}
-use Rattle.cred_model.specs.Step.{by_act, by_open, by_close, by_spawn, by_fork, by_exit, by_raw}
+use Rattle.cred_model.specs.TaskEvents.{by_spawn, by_fork, by_exit}
+use Rattle.cred_model.specs.LabelEvents.{is_access, by_abort, for_access, override_held, override_prepared, by_override, by_revert}
+use Rattle.cred_model.specs.CallEvents.{by_begin, aborted, follow, by_act, by_raw}
+use Rattle.cred_model.specs.FileEvents.{by_open, by_close}
+use Rattle.cred_model.specs.Step.{step}
 use Rattle.cred_model.proofs.Lists.{All-at, All-remove, find_each, slice_get_at}
 use Rattle.cred_model.proofs.Rising.{All-in_order, All-passed, length-in_order}
 use Rattle.cred_model.proofs.Waiting.{greatest_bounds}

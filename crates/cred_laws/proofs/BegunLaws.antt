@@ -21,7 +21,8 @@ use Rattle.cred_model.specs.Change.{by_rule}
 use Rattle.cred_model.specs.Ends.{is_beside}
 use Rattle.cred_model.specs.Dumpable.{differs, renewed}
 use Rattle.cred_model.specs.Moves.{table_full, replaced, with_current}
-use Rattle.cred_model.specs.Step.{aborted, done, follow, outcome, step}
+use Rattle.cred_model.specs.CallEvents.{aborted, follow}
+use Rattle.cred_model.specs.Step.{done, outcome, step}
 use Rattle.cred_model.proofs.Numbers.{numbered_last, owner_number}
 use Rattle.cred_model.proofs.Rising.{any-in_order}
 use Rattle.cred_sound.specs.Sound.{IsSound}

@@ -7,7 +7,7 @@ use Rattle.cred_event.specs.declared.event.Change.{Change}
 use Rattle.cred_event.specs.declared.event.Change.TheVariants.{SetFs, Adjust, Exec, Access}
 use Rattle.cred_model.specs.State.{Changed}
 use Rattle.cred_model.specs.Change.{Made, by_change, gain_told}
-use Rattle.cred_model.specs.Step.{commit_answer}
+use Rattle.cred_model.specs.LabelEvents.{commit_answer}
 use Rattle.cred_laws.specs.Calls.{Changes}
 use Rattle.cred_laws.proofs.CallLaws.{permitted_grows_by_execve}
 

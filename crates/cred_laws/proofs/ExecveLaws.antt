@@ -27,7 +27,8 @@ use Rattle.cred_model.specs.Broadcasts.{dropped}
 use Rattle.cred_model.specs.Ends.{is_beside, survivors, ended}
 use Rattle.cred_model.specs.Dumpable.{flags_committed}
 use Rattle.cred_model.specs.Moves.{updated, with_current, committed, given_up}
-use Rattle.cred_model.specs.Step.{committed_by, commit_answer, ends_with, broadcasts_after, try_commit, for_task, outcome, by_commit, done, step}
+use Rattle.cred_model.specs.LabelEvents.{committed_by, commit_answer, ends_with, broadcasts_after, try_commit, for_task, by_commit}
+use Rattle.cred_model.specs.Step.{outcome, done, step}
 use Rattle.cred_model.proofs.Lists.{All-at, at_place, slice_get_at}
 use Rattle.cred_model.proofs.Numbers.{numbered_last, updated_as, updated_task}
 use Rattle.cred_sound.specs.Sound.{IsSound}

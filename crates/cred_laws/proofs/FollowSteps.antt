@@ -22,7 +22,7 @@ use Rattle.cred_model.specs.State.{State, SealedCred, Task, Broadcast, Prepared,
 use Rattle.cred_model.specs.Broadcasts.{dropped, is_open, waits_in, with_child}
 use Rattle.cred_model.specs.Ends.{is_thread_of, survivors}
 use Rattle.cred_model.specs.Moves.{first_task, overriding, with_current}
-use Rattle.cred_model.specs.Step.{ends_with}
+use Rattle.cred_model.specs.LabelEvents.{ends_with}
 use Rattle.cred_model.proofs.Lists.{All-at, All-kept, alone, found, found_none}
 use Rattle.cred_model.proofs.Numbers.{numbered_is, numbered_last, overriding_as, owner_number}
 use Rattle.cred_model.proofs.Rising.{All-passed, length-in_order}

@@ -9,7 +9,7 @@ use Rattle.cred_event.specs.declared.event.Event.TheVariants.{Override, Revert, 
 use Rattle.cred_model.specs.Script.{Script}
 use Rattle.cred_model.specs.State.{State, Task, Numbered, OpenFile, task_of, open_of, held_by, opener_of}
 use Rattle.cred_model.specs.Moves.{overriding, with_overrides}
-use Rattle.cred_model.specs.Step.{for_access}
+use Rattle.cred_model.specs.LabelEvents.{for_access}
 use Rattle.cred_model.proofs.Numbers.{overriding_task, overriding_current}
 use Rattle.cred_sound.proofs.Events.{changes}
 use Rattle.cred_sound.proofs.Tests.{outcome_has, if_some, if_either, if_fewer}

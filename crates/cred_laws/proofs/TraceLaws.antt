@@ -27,7 +27,9 @@ use Rattle.cred_caps.specs.Numbers.{SYS_PTRACE}
 use Rattle.cred_model.specs.Ptrace.{asking_caps, are_all, has_asking_ids, has_sys_ptrace, is_no_stronger, may_trace}
 use Rattle.cred_model.specs.Dumpable.{flag_in, is_dumpable, with_process_flag, flagged, set_flag, without_flag, differs, renewed, is_gain, flags_by, differs_by}
 use Rattle.cred_model.specs.Dumpable.{flags_begun, flags_left, flag_of_value}
-use Rattle.cred_model.specs.Step.{commit_answer, committed_by, by_ptrace, done, step}
+use Rattle.cred_model.specs.TaskEvents.{by_ptrace}
+use Rattle.cred_model.specs.LabelEvents.{commit_answer, committed_by}
+use Rattle.cred_model.specs.Step.{done, step}
 use Rattle.cred_model.proofs.Lists.{find_changed, none_found}
 use Rattle.cred_sound.specs.Sound.{IsSound}
 use Rattle.cred_sound.proofs.Parts.{TasksChange, Cause, Creation, ByBegin, ByAct, ByRaw, ByCommit, BySpawn, ByFork, ByExit, ByAbort, SameTasks, SetsFlag}

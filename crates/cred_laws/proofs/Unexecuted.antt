@@ -41,7 +41,10 @@ use Rattle.cred_model.specs.Answers.{refusal, flag, checked, reply}
 use Rattle.cred_model.specs.Change.{Made, made_by_rule, made_by_exec, by_rule, by_change}
 use Rattle.cred_model.specs.Moves.{none_or, fewer_or, unless_refused, not_overridden, in_slot}
 use Rattle.cred_model.specs.Moves.{table_full, first_task, created, preparing, replaced}
-use Rattle.cred_model.specs.Step.{take_hold, for_access, aborted, follow, by_file, done, outcome}
+use Rattle.cred_model.specs.LabelEvents.{take_hold, for_access}
+use Rattle.cred_model.specs.CallEvents.{aborted, follow}
+use Rattle.cred_model.specs.FileEvents.{by_file}
+use Rattle.cred_model.specs.Step.{done, outcome}
 
 abbrev pub is_executed : Answer → Bool
 is_executed (answer.Executed number slot ended gains) = true

@@ -14,7 +14,8 @@ use Rattle.cred_model.specs.Broadcasts.{waits_no_more}
 use Rattle.cred_model.specs.Dumpable.{differs, renewed}
 use Rattle.cred_model.specs.Moves.{in_slot, replaced}
 use Rattle.cred_model.specs.Slots.{free, least_free, swept}
-use Rattle.cred_model.specs.Step.{aborted, by_act, outcome}
+use Rattle.cred_model.specs.CallEvents.{aborted, by_act}
+use Rattle.cred_model.specs.Step.{outcome}
 use Rattle.cred_model.proofs.Places.{find-at}
 use Rattle.cred_sound.specs.Sound.{IsSound}
 use Rattle.cred_plain.specs.Tasks.{IsTaskAt}

@@ -11,7 +11,8 @@ use Rattle.cred_model.specs.Dumpable.{differs, renewed}
 use Rattle.cred_model.specs.Broadcasts.{not_busy}
 use Rattle.cred_model.specs.Moves.{in_slot, not_overridden, replaced, table_full}
 use Rattle.cred_model.specs.Slots.{free, least_free}
-use Rattle.cred_model.specs.Step.{by_raw, outcome}
+use Rattle.cred_model.specs.CallEvents.{by_raw}
+use Rattle.cred_model.specs.Step.{outcome}
 use Rattle.cred_machine.specs.Room.{called_alone, swept_if}
 use Rattle.cred_machine.proofs.Leads.{idle_in}
 use Rattle.cred_machine.proofs.Rooms.{in_free}

@@ -8,7 +8,8 @@ use Rattle.cred_model.specs.Moves.{altered, with_change}
 use Rattle.cred_model.specs.Named.{change_files}
 use Rattle.cred_model.specs.Script.{Script, chain_of}
 use Rattle.cred_model.specs.State.{State, Changed, Numbered, Prepared, info_of, numbered, prepared_of}
-use Rattle.cred_model.specs.Step.{by_alter, outcome}
+use Rattle.cred_model.specs.LabelEvents.{by_alter}
+use Rattle.cred_model.specs.Step.{outcome}
 
 -- a label, its base, and what is seen of the file and of the namespaces
 module _ (script : Script) (s : State) (label : ℕ) (change : Change) (p : Prepared) (base : Numbered) (there : prepared_of s label ≡ Some p)

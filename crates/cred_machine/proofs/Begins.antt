@@ -18,7 +18,8 @@ use Rattle.cred_model.specs.Dumpable.{differs, renewed}
 use Rattle.cred_model.specs.Broadcasts.{not_busy, others_of, with_broadcast}
 use Rattle.cred_model.specs.Moves.{in_slot, not_overridden, replaced, table_full}
 use Rattle.cred_model.specs.Slots.{free, least_free}
-use Rattle.cred_model.specs.Step.{by_begin, outcome}
+use Rattle.cred_model.specs.CallEvents.{by_begin}
+use Rattle.cred_model.specs.Step.{outcome}
 use Rattle.cred_model.proofs.Numbers.{owner_number}
 use Rattle.cred_model.proofs.Places.{none_by_test}
 use Rattle.cred_machine.specs.Room.{begun, swept_if}

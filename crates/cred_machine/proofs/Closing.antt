@@ -2,7 +2,9 @@
 use Rattle.std.proofs.Common.{◌≡◌, ℕ, ◌==◌, List, [], ◌∷◌, ◌++◌, position, remove, slice_get, Some, refl}
 use Rattle.cred_event.specs.declared.answer.Answer.TheVariants.{Done}
 use Rattle.cred_model.specs.State.{State, Hold, OpenFile}
-use Rattle.cred_model.specs.Step.{by_close, by_release, outcome}
+use Rattle.cred_model.specs.LabelEvents.{by_release}
+use Rattle.cred_model.specs.FileEvents.{by_close}
+use Rattle.cred_model.specs.Step.{outcome}
 
 pub closed : (s : State) (fd place opener : ℕ) (file : OpenFile) (files : List OpenFile) (late : List ℕ) → position (λ f. f.fd == fd) s.files ≡ Some place
     → slice_get s.files place ≡ Some file → opener ≡ file.opener → files ≡ remove s.files place → late ≡ s.deferred ++ opener ∷ []

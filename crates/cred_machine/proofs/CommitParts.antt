@@ -13,7 +13,8 @@ use Rattle.cred_model.specs.Dumpable.{differs, flags_by, flags_committed}
 use Rattle.cred_model.specs.Broadcasts.{not_busy, broadcasts_left}
 use Rattle.cred_model.specs.Ends.{left_by, survivors}
 use Rattle.cred_model.specs.Moves.{given_up, not_overridden, with_current}
-use Rattle.cred_model.specs.Step.{by_commit, committed_by, for_task, outcome, try_commit}
+use Rattle.cred_model.specs.LabelEvents.{by_commit, committed_by, for_task, try_commit}
+use Rattle.cred_model.specs.Step.{outcome}
 use Rattle.cred_model.proofs.Numbers.{owner_number}
 use Rattle.cred_machine.specs.Labels.{CanCommit, Commits, IsChanged, IsOnCurrent}
 use Rattle.cred_plain.specs.Tasks.{ending_of, ends_by}

@@ -9,7 +9,7 @@ use Rattle.cred_model.specs.State.{State, Task, Prepared, Changed}
 use Rattle.cred_model.specs.Dumpable.{flags_committed}
 use Rattle.cred_model.specs.Ends.{ended, left_by, survivors}
 use Rattle.cred_model.specs.Moves.{committed, given_up, with_current}
-use Rattle.cred_model.specs.Step.{broadcasts_after, committed_by, ends_with, try_commit}
+use Rattle.cred_model.specs.LabelEvents.{broadcasts_after, committed_by, ends_with, try_commit}
 use Rattle.cred_model.specs.Broadcasts.{broadcasts_left}
 use Rattle.cred_plain.specs.Tasks.{ending_of, ends_by, is_other_thread}
 

@@ -11,7 +11,10 @@ use Rattle.cred_model.specs.Broadcasts.{joined, not_busy, waits_no_more, others_
 use Rattle.cred_model.specs.Dumpable.{differs, flags_begun, flags_left, is_dumpable, with_process_flag}
 use Rattle.cred_model.specs.Ends.{is_task, is_thread_of, left_by, survivors}
 use Rattle.cred_model.specs.Moves.{created, first_task, in_slot, not_overridden, preparing, table_full}
-use Rattle.cred_model.specs.Step.{by_begin, by_commit, by_exit, by_fork, by_init, by_prepare, by_spawn, outcome, try_commit, for_task}
+use Rattle.cred_model.specs.TaskEvents.{by_exit, by_fork, by_init, by_spawn}
+use Rattle.cred_model.specs.LabelEvents.{by_commit, by_prepare, try_commit, for_task}
+use Rattle.cred_model.specs.CallEvents.{by_begin}
+use Rattle.cred_model.specs.Step.{outcome}
 use Rattle.std.specs.Option.{option_and_then}
 use Rattle.cred_ids.specs.Limits.{PREPARED, TASKS}
 use Rattle.cred_machine.specs.Room.{begun}

@@ -11,7 +11,8 @@ use Rattle.cred_model.specs.Broadcasts.{waits_no_more}
 use Rattle.cred_model.specs.Dumpable.{differs, renewed}
 use Rattle.cred_model.specs.Moves.{replaced, at_abort}
 use Rattle.cred_model.specs.Slots.{free, least_free}
-use Rattle.cred_model.specs.Step.{aborted, by_act, outcome}
+use Rattle.cred_model.specs.CallEvents.{aborted, by_act}
+use Rattle.cred_model.specs.Step.{outcome}
 use Rattle.cred_machine.specs.Room.{swept_if}
 use Rattle.cred_machine.proofs.Acts.{IsNext, acts}
 

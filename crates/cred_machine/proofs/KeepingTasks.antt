@@ -17,7 +17,7 @@ use Rattle.cred_model.specs.Moves.{committed, created, first_task, given_up, wit
 use Rattle.cred_model.specs.Moves.{with_overrides}
 use Rattle.cred_model.specs.Slots.{refs}
 use Rattle.cred_model.specs.State.{State, Task, Broadcast, Prepared, Changed, Numbered, numbered, task_of}
-use Rattle.cred_model.specs.Step.{broadcasts_after, commit_answer, ends_with, try_commit}
+use Rattle.cred_model.specs.LabelEvents.{broadcasts_after, commit_answer, ends_with, try_commit}
 use Rattle.cred_model.proofs.Lists.{All-left, All-right}
 use Rattle.cred_model.proofs.Referred.{EachRef, each_broadcasts, each_prepared, each_tasks}
 use Rattle.cred_model.proofs.Numbers.{numbered_is, overriding_task, owner_number, updated_task}

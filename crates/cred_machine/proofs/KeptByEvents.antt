@@ -11,7 +11,7 @@ use Rattle.cred_event.specs.declared.answer.Answer.TheVariants.{Done, Kept}
 use Rattle.cred_model.specs.Moves.{altered, given_up, holding, in_slot, preparing}
 use Rattle.cred_model.specs.Slots.{least_free, refs, swept}
 use Rattle.cred_model.specs.State.{State, SealedCred, Broadcast, OpenFile as Open, Hold, Prepared, ProcessFlag, Changed, Numbered, hold_of, prepared_of}
-use Rattle.cred_model.specs.Step.{take_hold}
+use Rattle.cred_model.specs.LabelEvents.{take_hold}
 use Rattle.cred_model.proofs.Lists.{All-left}
 use Rattle.cred_model.proofs.Referred.{EachRef, each_deferred, each_files, each_holds, each_prepared}
 use Rattle.cred_sound.proofs.Parts.{with_left}

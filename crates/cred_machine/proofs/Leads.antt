@@ -14,7 +14,10 @@ use Rattle.cred_model.specs.Broadcasts.{dropped, joined, not_busy, waits_no_more
 use Rattle.cred_model.specs.Dumpable.{flags_begun, is_dumpable, with_process_flag, without_flag}
 use Rattle.cred_model.specs.Ends.{is_task, is_thread_of, left_by, survivors}
 use Rattle.cred_model.specs.Moves.{created, preparing, first_task, not_overridden, table_full, at_abort}
-use Rattle.cred_model.specs.Step.{aborted, by_exit, by_fork, by_init, by_prepare, by_spawn, outcome}
+use Rattle.cred_model.specs.TaskEvents.{by_exit, by_fork, by_init, by_spawn}
+use Rattle.cred_model.specs.LabelEvents.{by_prepare}
+use Rattle.cred_model.specs.CallEvents.{aborted}
+use Rattle.cred_model.specs.Step.{outcome}
 use Rattle.cred_model.proofs.Numbers.{owner_number}
 use Rattle.cred_model.proofs.Places.{none_by_test}
 use Rattle.cred_plain.specs.Tasks.{is_other_thread}

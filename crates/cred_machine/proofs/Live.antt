@@ -19,7 +19,8 @@ use Rattle.cred_model.specs.Change.{by_rule}
 use Rattle.cred_model.specs.Like.{IsLike}
 use Rattle.cred_model.specs.Moves.{replaced, updated, with_current}
 use Rattle.cred_model.specs.Slots.{free, is_kept, is_live, least_free, refs, stands_in}
-use Rattle.cred_model.specs.Step.{aborted, by_act, follow, outcome}
+use Rattle.cred_model.specs.CallEvents.{aborted, by_act, follow}
+use Rattle.cred_model.specs.Step.{outcome}
 use Rattle.cred_model.proofs.Rising.{AllPairs-head, AllPairs-tail}
 use Rattle.cred_sound.specs.Sound.{IsSound}
 use Rattle.cred_plain.specs.Creds.{slots_of}

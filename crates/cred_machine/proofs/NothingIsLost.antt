@@ -32,7 +32,10 @@ use Rattle.cred_model.specs.Script.{Script, chain_of, reaches, root_of}
 use Rattle.cred_model.specs.State.{State, Task, Broadcast, Prepared, Numbered, begun_by, broadcast_in, broadcast_of, credential_of, held_by, hold_of, info_of}
 use Rattle.cred_model.specs.State.{numbered}
 use Rattle.cred_model.specs.State.{open_of, opener_of, prepared_of, task_of}
-use Rattle.cred_model.specs.Step.{aborted, by_file, by_raw, by_stat, follow, for_access, for_task, outcome, step}
+use Rattle.cred_model.specs.LabelEvents.{for_access, for_task}
+use Rattle.cred_model.specs.CallEvents.{aborted, by_raw, follow}
+use Rattle.cred_model.specs.FileEvents.{by_file, by_stat}
+use Rattle.cred_model.specs.Step.{outcome, step}
 use Rattle.cred_sound.specs.Sound.{IsSound}
 use Rattle.cred_sound.proofs.Parts.{with_left}
 use Rattle.cred_sound.proofs.Tests.{outcome_has, if_some, if_none, if_either, if_fewer, if_passed, if_idle, if_own, if_last, if_rule, if_file_rule, if_ok}

@@ -9,7 +9,8 @@ use Rattle.cred_record.specs.Credential.{Credential}
 use Rattle.cred_event.specs.declared.answer.Answer.TheVariants.{NoHold, Sealed, TooDeep}
 use Rattle.cred_model.specs.State.{State, Task, Prepared, Changed, Numbered, SealedCred, held_by, task_of}
 use Rattle.cred_model.specs.Moves.{with_override, overridden, with_overrides}
-use Rattle.cred_model.specs.Step.{by_override, for_access, outcome}
+use Rattle.cred_model.specs.LabelEvents.{by_override, for_access}
+use Rattle.cred_model.specs.Step.{outcome}
 use Rattle.cred_model.proofs.Numbers.{owner_number}
 use Rattle.cred_plain.specs.Tasks.{OfOneTask}
 

@@ -10,7 +10,9 @@ use Rattle.cred_model.specs.State.{State, Task, Numbered, begun_by, held_by, num
 use Rattle.cred_model.specs.Broadcasts.{not_busy}
 use Rattle.cred_model.specs.Ends.{is_thread_of}
 use Rattle.cred_model.specs.Moves.{not_overridden}
-use Rattle.cred_model.specs.Step.{by_exit, by_fork, by_prepare, by_ptrace, by_signal, by_spawn, outcome}
+use Rattle.cred_model.specs.TaskEvents.{by_exit, by_fork, by_ptrace, by_signal, by_spawn}
+use Rattle.cred_model.specs.LabelEvents.{by_prepare}
+use Rattle.cred_model.specs.Step.{outcome}
 use Rattle.cred_model.specs.Dumpable.{is_dumpable}
 use Rattle.cred_model.specs.Ptrace.{may_trace}
 use Rattle.cred_model.specs.Script.{Script, reaches}

@@ -11,7 +11,8 @@ use Rattle.cred_model.specs.Broadcasts.{waits_no_more}
 use Rattle.cred_model.specs.Dumpable.{differs, renewed}
 use Rattle.cred_model.specs.Moves.{replaced, with_current}
 use Rattle.cred_model.specs.Slots.{free, least_free}
-use Rattle.cred_model.specs.Step.{by_act, outcome}
+use Rattle.cred_model.specs.CallEvents.{by_act}
+use Rattle.cred_model.specs.Step.{outcome}
 use Rattle.cred_sound.specs.Sound.{IsSound}
 use Rattle.cred_plain.specs.Broadcasts.{AreWaitedFor}
 use Rattle.cred_plain.specs.Tasks.{IsTaskAt}

@@ -17,7 +17,8 @@ use Rattle.cred_event.specs.declared.answer.Answer.{Answer}
 use Rattle.cred_model.specs.FileChanges.{changed_by, event_changes}
 use Rattle.cred_model.specs.Script.{Script}
 use Rattle.cred_model.specs.State.{State, Numbered, held_by}
-use Rattle.cred_model.specs.Step.{by_file, by_stat, done, outcome}
+use Rattle.cred_model.specs.FileEvents.{by_file, by_stat}
+use Rattle.cred_model.specs.Step.{done, outcome}
 use Rattle.cred_machine.specs.Written.{IsMadeBy}
 
 -- ---- what was made

@@ -2,7 +2,7 @@
 use Rattle.std.specs.Prelude.{◌≡◌, ℕ, slice_get, Some}
 use Rattle.cred_event.specs.declared.answer.Answer.{Answer}
 use Rattle.cred_model.specs.State.{State, Task, Prepared, Changed, task_of}
-use Rattle.cred_model.specs.Step.{try_commit}
+use Rattle.cred_model.specs.LabelEvents.{try_commit}
 
 -- The label at this place prepares a credential for a task that is alive, and this was its last
 -- change.

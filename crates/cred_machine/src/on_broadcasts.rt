@@ -8,7 +8,7 @@ ghost use Rattle.cred_model.specs.State.{Broadcast};
 ghost use Rattle.cred_model.specs.Like.{Gives};
 ghost use Rattle.cred_model.specs.Slots.{free, least_free};
 ghost use Rattle.cred_model.specs.Moves.{in_slot, replaced, table_full, at_abort};
-ghost use Rattle.cred_model.specs.Step.{aborted, by_act, by_begin};
+ghost use Rattle.cred_model.specs.CallEvents.{aborted, by_act, by_begin};
 ghost use Rattle.cred_sound.specs.Sound.{IsSound};
 ghost use Rattle.cred_machine.specs.Slots.{AreLive};
 ghost use Rattle.cred_machine.specs.Room.{IsCurrentOf, begun, sealed_for, swept_if};

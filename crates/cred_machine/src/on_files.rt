@@ -3,7 +3,8 @@ ghost use Rattle.std.specs.Prelude.{◌≡◌, IfOk, OnErr};
 ghost use Rattle.std.specs.Option.{option_map};
 ghost use Rattle.cred_model.specs.State.{opener_of};
 ghost use Rattle.cred_model.specs.Like.{Gives};
-ghost use Rattle.cred_model.specs.Step.{by_close, by_open, by_take_file};
+ghost use Rattle.cred_model.specs.LabelEvents.{by_take_file};
+ghost use Rattle.cred_model.specs.FileEvents.{by_close, by_open};
 ghost use Rattle.cred_plain.specs.Creds.{seen_numbered};
 
 use crate::state::State;

@@ -3,7 +3,7 @@ ghost use Rattle.std.specs.Prelude.{◌≡◌, true, IfOk, OnErr};
 ghost use Rattle.cred_model.specs.FileChanges.{changed_by, event_changes};
 ghost use Rattle.cred_model.specs.Like.{Gives};
 ghost use Rattle.cred_model.specs.Named.{AreModes, event_modes};
-ghost use Rattle.cred_model.specs.Step.{by_file, by_stat};
+ghost use Rattle.cred_model.specs.FileEvents.{by_file, by_stat};
 ghost use Rattle.cred_machine.specs.Written.{IsMadeBy};
 
 use crate::state::State;

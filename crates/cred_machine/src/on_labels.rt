@@ -1,8 +1,9 @@
 //! The events on holds and prepared labels.
 ghost use Rattle.std.specs.Prelude.{◌≡◌, ◌<◌, length, slice_get, IfOk, IfSome, OnOk, OnErr};
 ghost use Rattle.cred_model.specs.Like.{Gives};
-ghost use Rattle.cred_model.specs.Step.{by_abort, by_alter, by_ask, by_commit, by_prepare};
-ghost use Rattle.cred_model.specs.Step.{by_release, by_signal, by_take, take_hold};
+ghost use Rattle.cred_model.specs.TaskEvents.{by_signal};
+ghost use Rattle.cred_model.specs.LabelEvents.{by_abort, by_alter, by_ask, by_commit, by_prepare};
+ghost use Rattle.cred_model.specs.LabelEvents.{by_release, by_take, take_hold};
 ghost use Rattle.cred_model.specs.Moves.{given_up};
 ghost use Rattle.cred_model.specs.Broadcasts.{broadcasts_left};
 ghost use Rattle.cred_model.specs.State.{numbered_in};

@@ -3,7 +3,7 @@ ghost use Rattle.std.specs.Prelude.{◌≡◌, None, IfOk, OnErr};
 ghost use Rattle.std.specs.Option.{IsSome};
 ghost use Rattle.cred_model.specs.State.{held_by, task_of};
 ghost use Rattle.cred_model.specs.Like.{Gives};
-ghost use Rattle.cred_model.specs.Step.{by_override, by_revert};
+ghost use Rattle.cred_model.specs.LabelEvents.{by_override, by_revert};
 ghost use Rattle.cred_sound.specs.Sound.{IsSound};
 
 use crate::state::State;

@@ -1,6 +1,6 @@
 //! The events on who may look into whom, and on processes that are dumpable.
 ghost use Rattle.cred_model.specs.Like.{Gives};
-ghost use Rattle.cred_model.specs.Step.{by_dumpable, by_dumped, by_ptrace};
+ghost use Rattle.cred_model.specs.TaskEvents.{by_dumpable, by_dumped, by_ptrace};
 
 use crate::state::State;
 use cred_event::{Answer, Mode, Told};

@@ -3,7 +3,7 @@
 ghost use Rattle.std.specs.Prelude.{◌≡◌, IfOk, OnErr};
 ghost use Rattle.cred_model.specs.Like.{Gives};
 ghost use Rattle.cred_model.specs.Moves.{in_slot, table_full};
-ghost use Rattle.cred_model.specs.Step.{by_raw};
+ghost use Rattle.cred_model.specs.CallEvents.{by_raw};
 ghost use Rattle.cred_machine.specs.Room.{called_alone};
 
 use crate::on_broadcasts::call_on_copy;

@@ -1,7 +1,7 @@
 //! The events by which tasks are created and end.
 ghost use Rattle.std.specs.Prelude.{◌≡◌, IfOk, OnErr};
 ghost use Rattle.cred_model.specs.Like.{Gives};
-ghost use Rattle.cred_model.specs.Step.{by_exit, by_fork, by_init, by_spawn};
+ghost use Rattle.cred_model.specs.TaskEvents.{by_exit, by_fork, by_init, by_spawn};
 ghost use Rattle.cred_sound.specs.Sound.{IsSound};
 
 use crate::processes;

@@ -44,8 +44,11 @@ use Rattle.cred_model.specs.Ends.{is_task, is_thread_of, ended}
 use Rattle.cred_model.specs.Broadcasts.{not_busy, others_of, with_broadcast, waits_no_more, joined, dropped}
 use Rattle.cred_model.specs.Moves.{none_or, fewer_or, unless_refused, not_overridden, table_full}
 use Rattle.cred_model.specs.Moves.{first_task, with_overrides, holding, with_override, with_current, given_up, committed, altered, preparing, created, replaced}
-use Rattle.cred_model.specs.Step.{try_commit, done, ends_with, broadcasts_after, commit_answer, aborted, follow, take_hold, for_task, for_access, override_held}
-use Rattle.cred_model.specs.Step.{override_prepared, by_file}
+use Rattle.cred_model.specs.LabelEvents.{try_commit, ends_with, broadcasts_after, commit_answer, take_hold, for_task, for_access, override_held}
+use Rattle.cred_model.specs.LabelEvents.{override_prepared}
+use Rattle.cred_model.specs.CallEvents.{aborted, follow}
+use Rattle.cred_model.specs.FileEvents.{by_file}
+use Rattle.cred_model.specs.Step.{done}
 use Rattle.cred_model.specs.Like.{IsLike, AreAlike}
 use Rattle.cred_model.proofs.Lists.{All-remove, find_each, get_each}
 use Rattle.cred_model.proofs.Referred.{EachRef, each_updated, each_overriding, each_changed, each_tasks, each_broadcasts, each_flags, each_infos, each_files}

@@ -10,6 +10,10 @@ pub mod Broadcasts
 pub mod Answers
 pub mod Change
 pub mod Moves
+pub mod LabelEvents
+pub mod CallEvents
+pub mod TaskEvents
+pub mod FileEvents
 pub mod Step
 pub mod Like
 pub mod Course

@@ -3,7 +3,7 @@ ghost use Rattle.std.specs.Prelude.{◌≡◌, ◌≢◌, ◌==◌, find, positi
 ghost use Rattle.std.specs.List.{AllPairs};
 ghost use Rattle.std.specs.Option.{option_and_then, option_map};
 ghost use Rattle.cred_model.specs.Moves.{with_change};
-ghost use Rattle.cred_model.specs.Step as model;
+ghost use Rattle.cred_model.specs.LabelEvents as model;
 
 use cred_event::Change;
 use cred_record::{Cred, Gains};

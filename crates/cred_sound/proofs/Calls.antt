@@ -21,7 +21,8 @@ use Rattle.cred_model.specs.Ends.{is_task, is_thread_of, survivors, ended}
 use Rattle.cred_model.specs.Dumpable.{is_dumpable, with_process_flag, without_flag, differs, renewed, flags_left}
 use Rattle.cred_model.specs.Broadcasts.{others_of, with_broadcast, waits_no_more, joined, dropped}
 use Rattle.cred_model.specs.Moves.{table_full, with_current, first_task, replaced}
-use Rattle.cred_model.specs.Step.{aborted, follow, step}
+use Rattle.cred_model.specs.CallEvents.{aborted, follow}
+use Rattle.cred_model.specs.Step.{step}
 use Rattle.cred_model.proofs.Numbers.{owner_number}
 use Rattle.cred_model.proofs.Referred.{all_survive, each_ended}
 use Rattle.cred_sound.proofs.References.{own_refs, current_stands}

@@ -10,7 +10,7 @@ use Rattle.cred_model.specs.State.{State, Task, ProcessFlag, task_of}
 use Rattle.cred_model.specs.Ends.{survivors}
 use Rattle.cred_model.specs.Dumpable.{with_process_flag, set_flag, without_flag, flags_left, differs_by}
 use Rattle.cred_model.specs.Moves.{first_task, overriding, updated, with_current}
-use Rattle.cred_model.specs.Step.{ends_with}
+use Rattle.cred_model.specs.LabelEvents.{ends_with}
 use Rattle.cred_model.proofs.Numbers.{overriding_as, updated_as}
 use Rattle.cred_model.proofs.Referred.{all_survive}
 use Rattle.cred_sound.specs.Flags.{AreFlagged}

@@ -36,8 +36,10 @@ use Rattle.cred_model.specs.Ends.{ended}
 use Rattle.cred_model.specs.Ptrace.{may_trace}
 use Rattle.cred_model.specs.Dumpable.{is_dumpable, set_flag, flags_begun, flags_committed, flag_of_value}
 use Rattle.cred_model.specs.Moves.{table_full, with_overrides, with_override, overridden, with_change, first_task, created, preparing, committed, given_up}
-use Rattle.cred_model.specs.Step.{ends_with, broadcasts_after, commit_answer, try_commit, take_hold, is_access, for_task, for_access, override_held}
-use Rattle.cred_model.specs.Step.{override_prepared, by_file, outcome, step}
+use Rattle.cred_model.specs.LabelEvents.{ends_with, broadcasts_after, commit_answer, try_commit, take_hold, is_access, for_task, for_access, override_held}
+use Rattle.cred_model.specs.LabelEvents.{override_prepared}
+use Rattle.cred_model.specs.FileEvents.{by_file}
+use Rattle.cred_model.specs.Step.{outcome, step}
 use Rattle.cred_model.proofs.Lists.{All-at}
 use Rattle.cred_sound.specs.Ledger.{SealsOf}
 use Rattle.cred_sound.proofs.References.{owner_stands, overrides_stand, credential_stands, opener_stands, held_by_stands, file_stands, found_stands}

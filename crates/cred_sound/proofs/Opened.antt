@@ -11,7 +11,7 @@ use Rattle.cred_model.specs.Script.{Script}
 use Rattle.cred_model.specs.State.{State, Task, Broadcast, task_of}
 use Rattle.cred_model.specs.Ends.{is_beside, survivors}
 use Rattle.cred_model.specs.Moves.{first_task, overriding, updated, with_current}
-use Rattle.cred_model.specs.Step.{ends_with}
+use Rattle.cred_model.specs.LabelEvents.{ends_with}
 use Rattle.cred_model.proofs.Numbers.{overriding_as, overriding_number, owner_number, updated_as, updated_number}
 use Rattle.cred_sound.specs.Broadcasts.{IsThread}
 use Rattle.cred_sound.specs.Sound.{IsSound}

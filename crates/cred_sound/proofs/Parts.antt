@@ -27,7 +27,7 @@ use Rattle.cred_model.specs.Dumpable.{is_dumpable, with_process_flag, set_flag, 
 use Rattle.cred_model.specs.Dumpable.{flag_of_value}
 use Rattle.cred_model.specs.Broadcasts.{others_of, with_broadcast, waits_no_more, joined, dropped}
 use Rattle.cred_model.specs.Moves.{with_change, with_current, with_overrides, first_task}
-use Rattle.cred_model.specs.Step.{commit_answer, ends_with}
+use Rattle.cred_model.specs.LabelEvents.{commit_answer, ends_with}
 use Rattle.cred_sound.specs.Ledger.{IsClear, IsOrderly, SealsOf, ledger}
 use Rattle.cred_sound.proofs.References.{IsFree}
 

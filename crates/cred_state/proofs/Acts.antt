@@ -21,7 +21,8 @@ use Rattle.cred_model.specs.Dumpable.{differs, renewed, without_flag}
 use Rattle.cred_model.specs.Ends.{is_thread_of, survivors, left_by}
 use Rattle.cred_model.specs.Like.{IsOutcomeLike}
 use Rattle.cred_model.specs.Moves.{in_slot, with_current, replaced, at_abort}
-use Rattle.cred_model.specs.Step.{aborted, by_act, outcome}
+use Rattle.cred_model.specs.CallEvents.{aborted, by_act}
+use Rattle.cred_model.specs.Step.{outcome}
 use Rattle.cred_model.proofs.Likes.{does_same}
 use Rattle.cred_model.proofs.Lists.{found, slice_get_at}
 use Rattle.cred_model.proofs.Numbers.{owner_number}

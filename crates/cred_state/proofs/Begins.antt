@@ -20,7 +20,8 @@ use Rattle.cred_model.specs.Broadcasts.{not_busy, with_broadcast, WaitsNowhere}
 use Rattle.cred_model.specs.Dumpable.{differs, renewed}
 use Rattle.cred_model.specs.Like.{IsOutcomeLike}
 use Rattle.cred_model.specs.Moves.{in_slot, table_full, not_overridden, with_current, replaced}
-use Rattle.cred_model.specs.Step.{by_begin, outcome}
+use Rattle.cred_model.specs.CallEvents.{by_begin}
+use Rattle.cred_model.specs.Step.{outcome}
 use Rattle.cred_model.proofs.Lists.{AllPairs-map}
 use Rattle.cred_model.proofs.Numbers.{current_is}
 use Rattle.cred_model.proofs.Rising.{All-passed}

@@ -19,7 +19,8 @@ use Rattle.cred_model.specs.Slots.{in_use, kept}
 use Rattle.cred_model.specs.Ends.{survivors, ended}
 use Rattle.cred_model.specs.Like.{IsLike, IsOutcomeLike}
 use Rattle.cred_model.specs.Moves.{not_overridden, with_current, given_up, committed}
-use Rattle.cred_model.specs.Step.{by_abort, by_commit, outcome, try_commit, commit_answer, committed_by, broadcasts_after, ends_with, for_task, is_access}
+use Rattle.cred_model.specs.LabelEvents.{by_abort, by_commit, try_commit, commit_answer, committed_by, broadcasts_after, ends_with, for_task, is_access}
+use Rattle.cred_model.specs.Step.{outcome}
 use Rattle.cred_model.proofs.Likes.{does_same}
 use Rattle.cred_slots.specs.Table.{Table, IsSameBag, is_kept_in}
 use Rattle.cred_slots.proofs.Counting.{count-cons}

@@ -9,7 +9,8 @@ use Rattle.cred_model.specs.State.{State, Task, Broadcast, Numbered, ProcessFlag
 use Rattle.cred_model.specs.Broadcasts.{not_busy, joined}
 use Rattle.cred_model.specs.Dumpable.{is_dumpable, with_process_flag}
 use Rattle.cred_model.specs.Moves.{not_overridden, first_task}
-use Rattle.cred_model.specs.Step.{by_fork, by_spawn, outcome}
+use Rattle.cred_model.specs.TaskEvents.{by_fork, by_spawn}
+use Rattle.cred_model.specs.Step.{outcome}
 use Rattle.cred_model.proofs.Numbers.{numbered_is}
 use Rattle.cred_procs.specs.Tasks.{forked, has_process, spawned}
 use Rattle.cred_slots.specs.Table.{Table}

@@ -20,7 +20,9 @@ use Rattle.cred_model.specs.Moves.{altered}
 use Rattle.cred_model.specs.Named.{change_files}
 use Rattle.cred_model.specs.Script.{Script, chain_of}
 use Rattle.cred_model.specs.State.{State, Prepared, Numbered, held_by, info_of, numbered, open_of, prepared_of}
-use Rattle.cred_model.specs.Step.{by_alter, by_open, outcome}
+use Rattle.cred_model.specs.LabelEvents.{by_alter}
+use Rattle.cred_model.specs.FileEvents.{by_open}
+use Rattle.cred_model.specs.Step.{outcome}
 use Rattle.cred_model.proofs.Places.{if_some}
 use Rattle.cred_hold.specs.Tokens.{Loan}
 use Rattle.cred_tables.specs.Out.{AreSameTokens}

@@ -9,7 +9,8 @@ use Rattle.cred_record.specs.declared.refusal.Refusal.{Refusal}
 use Rattle.cred_attr.specs.Exactly.{AnswersExactly}
 use Rattle.cred_event.specs.declared.answer.Answer.TheVariants.{Done}
 use Rattle.cred_model.specs.State.{State, Numbered, held_by}
-use Rattle.cred_model.specs.Step.{by_file, outcome}
+use Rattle.cred_model.specs.FileEvents.{by_file}
+use Rattle.cred_model.specs.Step.{outcome}
 use Rattle.cred_slots.specs.Table.{Table}
 use Rattle.cred_tables.specs.Kept.{Parts, IsKept}
 

@@ -5,7 +5,8 @@ use Rattle.cred_record.specs.Credential.{Credential}
 use Rattle.cred_event.specs.declared.answer.Answer.{Answer}
 use Rattle.cred_event.specs.declared.answer.Answer.TheVariants.{Done}
 use Rattle.cred_model.specs.State.{State, Hold, Numbered, numbered_in}
-use Rattle.cred_model.specs.Step.{by_release, take_hold, outcome}
+use Rattle.cred_model.specs.LabelEvents.{by_release, take_hold}
+use Rattle.cred_model.specs.Step.{outcome}
 use Rattle.cred_slots.specs.Table.{Table}
 use Rattle.cred_tables.specs.Kept.{Parts, state_of, IsKept}
 use Rattle.cred_tables.proofs.Bags.{bag-has, bag-at}

@@ -14,7 +14,8 @@ use Rattle.cred_model.specs.Dumpable.{flags_begun}
 use Rattle.cred_model.specs.Slots.{in_use}
 use Rattle.cred_model.specs.Like.{IsOutcomeLike}
 use Rattle.cred_model.specs.Moves.{in_slot, table_full, first_task, created}
-use Rattle.cred_model.specs.Step.{by_init, outcome}
+use Rattle.cred_model.specs.TaskEvents.{by_init}
+use Rattle.cred_model.specs.Step.{outcome}
 use Rattle.cred_model.proofs.Likes.{does_same}
 use Rattle.cred_slots.specs.Table.{Table, IsOnlyUser, IsSameBag}
 use Rattle.cred_slots.specs.Table as table

@@ -17,7 +17,8 @@ use Rattle.cred_model.specs.Slots.{in_use, kept}
 use Rattle.cred_model.specs.Moves as moves
 use Rattle.cred_model.specs.Moves.{in_slot, table_full, with_change}
 use Rattle.cred_model.specs.Like.{IsLike, IsOutcomeLike}
-use Rattle.cred_model.specs.Step.{by_abort, by_prepare, outcome}
+use Rattle.cred_model.specs.LabelEvents.{by_abort, by_prepare}
+use Rattle.cred_model.specs.Step.{outcome}
 use Rattle.cred_slots.specs.Table.{Table, IsSameBag, is_kept_in, references_to}
 use Rattle.cred_state.specs.Refusals.{MayPrepare}
 use Rattle.cred_slots.specs.Table as table

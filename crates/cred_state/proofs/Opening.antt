@@ -3,7 +3,8 @@ use Rattle.std.proofs.Common.{◌≡◌, ℕ, ◌<◌, ◌==◌, List, [], ◌�
 use Rattle.cred_record.specs.Credential.{Credential}
 use Rattle.cred_event.specs.declared.answer.Answer.TheVariants.{Done}
 use Rattle.cred_model.specs.State.{State, OpenFile}
-use Rattle.cred_model.specs.Step.{by_close, outcome}
+use Rattle.cred_model.specs.FileEvents.{by_close}
+use Rattle.cred_model.specs.Step.{outcome}
 use Rattle.cred_slots.specs.Table.{Table}
 use Rattle.cred_tables.specs.Kept.{Parts, state_of, IsKept}
 use Rattle.cred_tables.proofs.Bags.{bag-has, bag-at}

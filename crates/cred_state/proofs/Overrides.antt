@@ -11,7 +11,8 @@ use Rattle.cred_model.specs.State.{State, Task, Prepared, Changed, Numbered, tas
 use Rattle.cred_model.specs.Slots.{in_use, kept}
 use Rattle.cred_model.specs.Like.{IsLike, IsOutcomeLike}
 use Rattle.cred_model.specs.Moves.{with_overrides, with_override, overridden}
-use Rattle.cred_model.specs.Step.{by_override, by_revert, for_access, is_access, outcome}
+use Rattle.cred_model.specs.LabelEvents.{by_override, by_revert, for_access, is_access}
+use Rattle.cred_model.specs.Step.{outcome}
 use Rattle.cred_model.proofs.Likes.{does_same}
 use Rattle.cred_model.proofs.Numbers.{owner_number}
 use Rattle.cred_slots.specs.Table.{Table, IsSameBag, references_to}

@@ -14,7 +14,8 @@ use Rattle.cred_model.specs.Dumpable.{differs, renewed}
 use Rattle.cred_model.specs.Like.{IsOutcomeLike}
 use Rattle.cred_model.specs.Moves.{in_slot, table_full, not_overridden, with_current, replaced}
 use Rattle.cred_model.specs.State.{State, Task, Numbered, numbered, task_of, current_of, broadcast_in}
-use Rattle.cred_model.specs.Step.{by_raw, outcome}
+use Rattle.cred_model.specs.CallEvents.{by_raw}
+use Rattle.cred_model.specs.Step.{outcome}
 use Rattle.cred_model.proofs.Likes.{does_same}
 use Rattle.cred_slots.specs.Table.{Table}
 use Rattle.cred_slots.specs.Table as table

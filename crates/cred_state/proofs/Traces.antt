@@ -13,7 +13,8 @@ use Rattle.cred_model.specs.Dumpable.{differs, differs_by, flag_of_value, flags_
 use Rattle.cred_model.specs.Ptrace.{may_trace}
 use Rattle.cred_model.specs.Script.{Script, reaches}
 use Rattle.cred_model.specs.State.{State, Task, Changed, Numbered, ProcessFlag, current_of, held_by, numbered, task_of}
-use Rattle.cred_model.specs.Step.{by_dumpable, by_dumped, by_ptrace, outcome}
+use Rattle.cred_model.specs.TaskEvents.{by_dumpable, by_dumped, by_ptrace}
+use Rattle.cred_model.specs.Step.{outcome}
 use Rattle.cred_setid.specs.Parts.{changed, parts_of}
 use Rattle.cred_setid.specs.declared.parts.IdParts.{IdParts}
 use Rattle.cred_state.specs.Flags.{differs_from}

@@ -7,7 +7,7 @@ use Rattle.cred_model.specs.State.{State, Task, Hold, Numbered, task_of, current
 use Rattle.cred_model.specs.State.{broadcast_in, hold_of, prepared_of}
 use Rattle.cred_model.specs.Broadcasts.{not_busy}
 use Rattle.cred_model.specs.Moves.{not_overridden}
-use Rattle.cred_model.specs.Step.{by_fork, by_spawn}
+use Rattle.cred_model.specs.TaskEvents.{by_fork, by_spawn}
 use Rattle.cred_procs.specs.Tasks.{has_process}
 
 -- The label may prepare for the task, on the credential of this number, which the hold has.

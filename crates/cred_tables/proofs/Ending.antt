@@ -12,7 +12,9 @@ use Rattle.cred_model.specs.Broadcasts.{not_busy, waits_no_more}
 use Rattle.cred_model.specs.Dumpable.{flags_left}
 use Rattle.cred_model.specs.Slots.{in_use}
 use Rattle.cred_model.specs.Ends.{numbers_of, is_task, survivors, left_by, ended}
-use Rattle.cred_model.specs.Step.{by_exit, ends_with, outcome}
+use Rattle.cred_model.specs.TaskEvents.{by_exit}
+use Rattle.cred_model.specs.LabelEvents.{ends_with}
+use Rattle.cred_model.specs.Step.{outcome}
 use Rattle.cred_model.proofs.Referred.{all_survive}
 use Rattle.cred_slots.specs.Table.{Table, IsSameBag}
 use Rattle.cred_slots.proofs.Counting.{count-cons, count-append}

@@ -9,7 +9,7 @@ use Rattle.std.proofs.lemmas.Map.Entries.{none_past_head}
 use Rattle.cred_event.specs.declared.event.Change.{Change}
 use Rattle.cred_model.specs.State.{Prepared, Changed}
 use Rattle.cred_model.specs.Moves.{altered_at, with_change}
-use Rattle.cred_model.specs.Step.{is_access}
+use Rattle.cred_model.specs.LabelEvents.{is_access}
 use Rattle.cred_tables.specs.declared.prepared.Preparation.{Preparation}
 use Rattle.cred_tables.specs.Prepared.{prepared_as, all_prepared, IsReady, GivesUpChanged}
 use Rattle.cred_tables.proofs.ByLabel.{test_sym}

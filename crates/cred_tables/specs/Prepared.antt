@@ -5,7 +5,7 @@ use Rattle.std.specs.declared.option.Option.{Option}
 use Rattle.std.specs.Option.{option_and_then}
 use Rattle.cred_event.specs.declared.event.Change.{Change}
 use Rattle.cred_model.specs.State.{Prepared, Changed}
-use Rattle.cred_model.specs.Step.{is_access}
+use Rattle.cred_model.specs.LabelEvents.{is_access}
 use Rattle.cred_tables.specs.declared.prepared.Preparation.{Preparation}
 
 -- what is prepared under the label

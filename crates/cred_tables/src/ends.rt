@@ -1,7 +1,7 @@
 //! The tasks that end with a commit.
 ghost use Rattle.std.specs.Prelude.{◌≡◌, IfOk, IfSome, OnErr};
 ghost use Rattle.std.specs.Option.{IsSome};
-ghost use Rattle.cred_model.specs.Step as model;
+ghost use Rattle.cred_model.specs.LabelEvents as model;
 ghost use Rattle.cred_procs.specs.Tasks.{EndsTasks, task_in};
 ghost use Rattle.cred_model.specs.Broadcasts.{broadcasts_left};
 

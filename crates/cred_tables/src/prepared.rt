@@ -3,7 +3,7 @@ ghost use Rattle.std.specs.Prelude.{◌≡◌, ◌==◌, [], ◌∷◌, ◌++◌
 ghost use Rattle.std.specs.Prelude.{MatchOption, OnOk, OnErr};
 ghost use Rattle.std.specs.Option.{option_and_then, option_map};
 ghost use Rattle.cred_model.specs.Moves.{with_change};
-ghost use Rattle.cred_model.specs.Step as model;
+ghost use Rattle.cred_model.specs.LabelEvents as model;
 ghost use Rattle.cred_tables.specs.Prepared.{prepared_as, prepared_place, changed_of, IsReady};
 ghost use Rattle.cred_tables.specs.Prepared.{EndsLabel};
 ghost use Rattle.cred_tables.specs.Prepared.{GivesUpChanged};

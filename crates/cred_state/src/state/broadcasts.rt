@@ -13,7 +13,7 @@ ghost use Rattle.cred_model.specs.State.{Broadcast, begun_by, broadcast_in, numb
 ghost use Rattle.cred_model.specs.Broadcasts.{not_busy};
 ghost use Rattle.cred_model.specs.Dumpable.{differs};
 ghost use Rattle.cred_model.specs.Like.{Gives, GivesLike};
-ghost use Rattle.cred_model.specs.Step.{aborted, by_act, by_begin};
+ghost use Rattle.cred_model.specs.CallEvents.{aborted, by_act, by_begin};
 ghost use Rattle.cred_model.specs.Moves.{at_abort};
 ghost use Rattle.cred_sound.specs.Sound.{IsSound};
 ghost use Rattle.cred_tables.specs.Begin.{ActsNext, MayBegin};

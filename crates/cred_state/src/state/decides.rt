@@ -1,7 +1,9 @@
 //! Events that are decided on credentials: on what is lent for them in the same call.
 ghost use Rattle.std.specs.Prelude.{◌≡◌, IfOk, OnErr};
 ghost use Rattle.cred_model.specs.Like.{Gives, GivesLike};
-ghost use Rattle.cred_model.specs.Step.{by_alter, by_ask, by_open, by_signal};
+ghost use Rattle.cred_model.specs.TaskEvents.{by_signal};
+ghost use Rattle.cred_model.specs.LabelEvents.{by_alter, by_ask};
+ghost use Rattle.cred_model.specs.FileEvents.{by_open};
 ghost use Rattle.cred_sound.specs.Sound.{IsSound};
 ghost use Rattle.cred_tables.specs.Out.{AreHome, AreOut};
 

@@ -8,7 +8,7 @@ ghost use Rattle.cred_record.specs.declared.refusal.Denial.{Denial};
 ghost use Rattle.cred_rules.specs.Files as rules;
 ghost use Rattle.cred_model.specs.Like.{Gives};
 ghost use Rattle.cred_model.specs.State.{held_by};
-ghost use Rattle.cred_model.specs.Step.{by_file, by_stat};
+ghost use Rattle.cred_model.specs.FileEvents.{by_file, by_stat};
 
 use crate::state::State;
 use cred_attr::{chmod, chown, set_attr};

@@ -8,7 +8,8 @@ ghost use Rattle.cred_record.specs.declared.want.Want.{Want as Wanted};
 ghost use Rattle.cred_model.specs.Answers.{checked};
 ghost use Rattle.cred_model.specs.State.{held_by, info_of, open_of, opener_of};
 ghost use Rattle.cred_model.specs.Like.{Gives};
-ghost use Rattle.cred_model.specs.Step.{by_close, by_open, by_take_file};
+ghost use Rattle.cred_model.specs.LabelEvents.{by_take_file};
+ghost use Rattle.cred_model.specs.FileEvents.{by_close, by_open};
 ghost use Rattle.cred_tables.specs.Kept.{seen_in, IsInUse};
 ghost use Rattle.cred_state.specs.TokensOut.{MayOpen};
 

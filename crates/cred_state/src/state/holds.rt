@@ -1,7 +1,7 @@
 //! The events on holds.
 ghost use Rattle.std.specs.Prelude.{◌≡◌, IfOk, OnErr};
 ghost use Rattle.cred_model.specs.Like.{Gives};
-ghost use Rattle.cred_model.specs.Step.{by_release, by_take, take_hold};
+ghost use Rattle.cred_model.specs.LabelEvents.{by_release, by_take, take_hold};
 ghost use Rattle.cred_model.specs.State.{numbered_in};
 ghost use Rattle.cred_tables.specs.Kept.{IsInUse};
 

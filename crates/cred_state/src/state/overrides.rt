@@ -6,7 +6,7 @@ ghost use Rattle.cred_event.specs.declared.event.Event.TheVariants.{Override};
 ghost use Rattle.cred_model.specs.State.{held_by, task_of};
 ghost use Rattle.cred_model.specs.Like.{Gives, GivesLike};
 ghost use Rattle.cred_model.specs.Moves.{not_overridden};
-ghost use Rattle.cred_model.specs.Step.{by_override, by_revert};
+ghost use Rattle.cred_model.specs.LabelEvents.{by_override, by_revert};
 ghost use Rattle.cred_sound.specs.Sound.{IsSound};
 ghost use Rattle.cred_tables.specs.Out.{AreHome, AreOut};
 

@@ -8,7 +8,7 @@ ghost use Rattle.cred_model.specs.Moves.{not_overridden};
 ghost use Rattle.cred_model.specs.Like.{Gives, GivesLike};
 ghost use Rattle.cred_sound.specs.Sound.{IsSound};
 ghost use Rattle.cred_event.specs.declared.event.Event.TheVariants.{Commit};
-ghost use Rattle.cred_model.specs.Step.{by_abort, by_commit, by_prepare};
+ghost use Rattle.cred_model.specs.LabelEvents.{by_abort, by_commit, by_prepare};
 ghost use Rattle.cred_tables.specs.Kept.{seen_in};
 ghost use Rattle.cred_tables.specs.Prepared.{changed_of, IsReady};
 ghost use Rattle.cred_tables.specs.Out.{AreHome, AreOut};

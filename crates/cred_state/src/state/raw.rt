@@ -6,7 +6,7 @@ ghost use Rattle.cred_record.specs.Credential.{AreValidSets};
 ghost use Rattle.cred_rules.specs.SetId.{set_id};
 ghost use Rattle.cred_model.specs.Dumpable.{differs};
 ghost use Rattle.cred_model.specs.Like.{Gives, GivesLike};
-ghost use Rattle.cred_model.specs.Step.{by_raw};
+ghost use Rattle.cred_model.specs.CallEvents.{by_raw};
 ghost use Rattle.cred_setid.specs.Parts.{changed};
 ghost use Rattle.cred_sound.specs.Sound.{IsSound};
 ghost use Rattle.cred_tables.specs.Kept.{cred_under, seen_in};

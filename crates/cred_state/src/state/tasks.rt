@@ -8,7 +8,7 @@ ghost use Rattle.cred_model.specs.Broadcasts.{not_busy};
 ghost use Rattle.cred_model.specs.Dumpable.{flag_in};
 ghost use Rattle.cred_model.specs.Like.{Gives, GivesLike};
 ghost use Rattle.cred_model.specs.State.{broadcast_in, task_of};
-ghost use Rattle.cred_model.specs.Step.{by_exit, by_fork, by_init, by_spawn};
+ghost use Rattle.cred_model.specs.TaskEvents.{by_exit, by_fork, by_init, by_spawn};
 ghost use Rattle.cred_procs.specs.Tasks.{has_process};
 ghost use Rattle.cred_sound.specs.Sound.{IsSound};
 ghost use Rattle.cred_tables.specs.Kept.{seen_in};

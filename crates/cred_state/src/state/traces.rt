@@ -4,7 +4,7 @@ ghost use Rattle.std.specs.Prelude.{◌≡◌, Some};
 ghost use Rattle.std.specs.Option.{option_map};
 ghost use Rattle.cred_model.specs.Like.{Gives};
 ghost use Rattle.cred_model.specs.State.{Changed, numbered};
-ghost use Rattle.cred_model.specs.Step.{by_dumpable, by_dumped, by_ptrace};
+ghost use Rattle.cred_model.specs.TaskEvents.{by_dumpable, by_dumped, by_ptrace};
 ghost use Rattle.cred_ptrace.specs.Seen.{IsSeen};
 ghost use Rattle.cred_tables.specs.Kept.{cred_under, seen_in, IsInUse};
 ghost use Rattle.cred_tables.specs.Prepared.{changed_of};

@@ -3,7 +3,7 @@ use Rattle.std.specs.Option.{IfSome}
 use Rattle.cred_event.specs.declared.event.Change.{Change}
 use Rattle.cred_event.specs.declared.event.Change.TheVariants.{Exec}
 use Rattle.cred_model.specs.State.{Task}
-use Rattle.cred_model.specs.Step.{ends_with}
+use Rattle.cred_model.specs.LabelEvents.{ends_with}
 use Rattle.cred_procs.specs.Tasks.{EndsTasks, task_in}
 use Rattle.cred_tables.proofs.Ending.{none_ends}
 use Rattle.cred_tables.proofs.ends.end_with.Goals as goal

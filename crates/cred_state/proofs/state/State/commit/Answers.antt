@@ -1,5 +1,5 @@
 use Rattle.std.proofs.Common.{refl, ap, ◌∙◌}
-use Rattle.cred_model.specs.Step.{is_access}
+use Rattle.cred_model.specs.LabelEvents.{is_access}
 use Rattle.cred_tables.specs.Kept.{as_parts, state_of}
 use Rattle.cred_tables.proofs.Owners.{owner_of, own_owner, over_owner}
 use Rattle.cred_state.proofs.Commits.{commit_none, commit_no_task, commit_busy, commit_overridden, commit_stale}

@@ -3,7 +3,7 @@ use Rattle.std.specs.Option.{option_and_then}
 use Rattle.cred_event.specs.declared.event.Change.{Change}
 use Rattle.cred_model.specs.State.{Changed, Prepared}
 use Rattle.cred_model.specs.Moves.{with_current}
-use Rattle.cred_model.specs.Step.{is_access}
+use Rattle.cred_model.specs.LabelEvents.{is_access}
 use Rattle.cred_model.proofs.Places.{find-at}
 use Rattle.cred_model.specs.Broadcasts.{broadcasts_left}
 use Rattle.cred_slots.specs.Table.{Table}

@@ -1,5 +1,5 @@
 use Rattle.cred_model.proofs.Likes.{does_same}
-use Rattle.cred_model.specs.Step.{by_take}
+use Rattle.cred_model.specs.LabelEvents.{by_take}
 use Rattle.cred_state.proofs.Acts.{gives_ok}
 use Rattle.cred_state.proofs.state.State.step.Goals as goal
 

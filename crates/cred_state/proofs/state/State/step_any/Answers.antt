@@ -3,7 +3,9 @@ use Rattle.std.proofs.lemmas.List.Elements.{All-head}
 use Rattle.cred_record.specs.File.{IsMode}
 use Rattle.cred_rules.specs.Files.{chmod, chown, set_attr}
 use Rattle.cred_model.proofs.Likes.{does_same}
-use Rattle.cred_model.specs.Step.{by_exit, by_file, by_fork, by_spawn, by_take, by_take_file}
+use Rattle.cred_model.specs.TaskEvents.{by_exit, by_fork, by_spawn}
+use Rattle.cred_model.specs.LabelEvents.{by_take, by_take_file}
+use Rattle.cred_model.specs.FileEvents.{by_file}
 use Rattle.cred_state.proofs.Acts.{gives_ok}
 use Rattle.cred_state.proofs.state.State.step_any.Goals as goal
 

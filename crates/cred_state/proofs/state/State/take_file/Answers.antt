@@ -1,5 +1,5 @@
 use Rattle.std.proofs.Common.{refl, sym}
-use Rattle.cred_model.specs.Step.{by_take_file}
+use Rattle.cred_model.specs.LabelEvents.{by_take_file}
 use Rattle.cred_tables.specs.Kept.{seen_in}
 use Rattle.cred_state.proofs.Holding.{takes_hold}
 use Rattle.cred_state.proofs.Standing.{opener-in_use}

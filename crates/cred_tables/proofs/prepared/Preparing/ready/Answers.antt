@@ -1,7 +1,7 @@
 use Rattle.std.proofs.Common.{◌≡◌, false, sym, ap, ◌∙◌, subst}
 use Rattle.cred_event.specs.declared.event.Change.{Change}
 use Rattle.cred_model.specs.State.{Changed}
-use Rattle.cred_model.specs.Step.{is_access}
+use Rattle.cred_model.specs.LabelEvents.{is_access}
 use Rattle.cred_tables.specs.Prepared.{IsReady}
 use Rattle.cred_tables.proofs.Labels.{readies}
 use Rattle.cred_tables.proofs.prepared.Preparing.ready.Goals as goal
