@@ -10,6 +10,6 @@ mod rights;
 
 pub use class::has_group;
 pub use file::{may, may_by};
-pub use mode::has_bit;
+pub use mode::{EXECUTE, GROUP_EXECUTE, SET_GROUP, SET_USER, has_any};
 pub use real::access_cred;
 pub use rights::{capable, may_signal, may_signal_by};

@@ -10,27 +10,8 @@ use cred_access::capable;
 use cred_caps::Cap;
 use cred_record::{Cred, FileInfo, Refusal, copy_attr};
 
-/// The set-user-ID bit.
-pub const SET_USER: u16 = 0o4000;
-
-/// The set-group-ID bit.
-pub const SET_GROUP: u16 = 0o2000;
-
-/// The execute bit of the group.
-pub const GROUP_EXECUTE: u16 = 0o0010;
-
-/// The three execute bits.
-pub const EXECUTE: u16 = 0o0111;
-
 /// The greatest mode.
 const LAST: u16 = 0o7777;
-
-/// Whether one of these bits of the mode is set.
-pub fn has_any(mode: u16, bits: u16) -> bool
-    ensures { result ≡ modes.has_any mode bits }
-{
-    mode & bits != 0
-}
 
 /// The mode with these bits unset.
 pub fn without(mode: u16, bits: u16) -> u16

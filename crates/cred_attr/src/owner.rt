@@ -5,9 +5,9 @@ ghost use Rattle.cred_record.specs.File.{IsMode};
 ghost use Rattle.cred_rules.specs.Files as spec;
 ghost use Rattle.cred_rules.specs.SetId.{is_given};
 
-use crate::mode::{EXECUTE, GROUP_EXECUTE, SET_GROUP, SET_USER, has_any, without};
+use crate::mode::without;
 use crate::rights::{in_group, owns};
-use cred_access::capable;
+use cred_access::{EXECUTE, GROUP_EXECUTE, SET_GROUP, SET_USER, capable, has_any};
 use cred_caps::Cap;
 use cred_ids::{Arg, Id, NoMemory};
 use cred_record::{Attr, Cred, FileInfo, FileKind, Refusal, copy_attr};

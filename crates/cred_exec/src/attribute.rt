@@ -4,19 +4,10 @@ ghost use Rattle.cred_rules.specs.Attribute.{attribute_of};
 ghost use Rattle.cred_rules.specs.Exec.{SpellsNothing, has_effect, sets_user, sets_group};
 ghost use Rattle.cred_rules.specs.Exec.{read_by, attribute_for};
 
-use cred_access::has_bit;
+use cred_access::{GROUP_EXECUTE, SET_GROUP, SET_USER, has_any};
 use cred_filecap::{AttrRefusal, FileCaps, counts, decode};
 use cred_ids::Id;
 use cred_record::{Cred, FileInfo};
-
-/// The place of the set-user-ID bit in a mode.
-const SET_USER_ID: u32 = 11;
-
-/// The place of the set-group-ID bit.
-const SET_GROUP_ID: u32 = 10;
-
-/// The place of the execute bit of the group.
-const GROUP_EXECUTE_PLACE: u32 = 3;
 
 /// Whether the set-id bits and the attribute have effect: not under no_new_privs, and not where the
 /// file system is mounted nosuid.
@@ -30,7 +21,7 @@ fn has_effect(cred: &Cred, file: &FileInfo) -> bool
 pub fn sets_user(cred: &Cred, file: &FileInfo) -> bool
     ensures { result ≡ sets_user cred.now file.now }
 {
-    has_effect(cred, file) && has_bit(file.mode, SET_USER_ID)
+    has_effect(cred, file) && has_any(file.mode, SET_USER)
 }
 
 /// Whether the set-group-ID bit is in force. Without the execute bit of the group it is no
@@ -38,9 +29,7 @@ pub fn sets_user(cred: &Cred, file: &FileInfo) -> bool
 pub fn sets_group(cred: &Cred, file: &FileInfo) -> bool
     ensures { result ≡ sets_group cred.now file.now }
 {
-    has_effect(cred, file)
-        && has_bit(file.mode, SET_GROUP_ID)
-        && has_bit(file.mode, GROUP_EXECUTE_PLACE)
+    has_effect(cred, file) && has_any(file.mode, SET_GROUP) && has_any(file.mode, GROUP_EXECUTE)
 }
 
 /// The attribute that the bytes spell, if it counts under these root ids.

@@ -12,9 +12,9 @@ use Rattle.cred_record.specs.declared.gains.Gains.{Gains}
 use Rattle.cred_record.specs.declared.want.Want.{Want}
 use Rattle.cred_record.specs.Credential.{Credential, is_root}
 use Rattle.cred_record.specs.File.{File}
-use Rattle.cred_rules.specs.Access.{GROUP, is_directory, may}
+use Rattle.cred_rules.specs.Access.{is_directory, may}
 use Rattle.cred_rules.specs.Attribute.{Attribute, attribute_of, counts}
-use Rattle.cred_rules.specs.Bits.{has_bit}
+use Rattle.cred_rules.specs.Modes.{SET_USER, SET_GROUP, GROUP_EXECUTE, has_any}
 
 -- the credential after an execve, and what its permitted set gained, by where that came from
 pub record Executed : Type 0 where
@@ -44,21 +44,15 @@ may_execute c f = not (is_directory f.kind) && may c f TO_EXECUTE
 abbrev pub has_effect : Credential → File → Bool
 has_effect c f = not c.nnp && not f.nosuid
 
--- the places of the two set-id bits in a mode (inode(7), "The file type and mode")
-abbrev pub SET_USER_ID : ℕ
-SET_USER_ID = 11
-
-abbrev pub SET_GROUP_ID : ℕ
-SET_GROUP_ID = 10
-
 -- the set-user-ID bit is in force
 abbrev pub sets_user : Credential → File → Bool
-sets_user c f = has_effect c f && has_bit f.mode SET_USER_ID
+sets_user c f = has_effect c f && has_any f.mode SET_USER
 
 -- the set-group-ID bit is in force: without the execute bit of the group it stands for mandatory
 -- locking (inode(7))
 abbrev pub sets_group : Credential → File → Bool
-sets_group c f = has_effect c f && has_bit f.mode SET_GROUP_ID && has_bit f.mode GROUP
+sets_group c f =
+    has_effect c f && has_any f.mode SET_GROUP && has_any f.mode GROUP_EXECUTE
 
 -- an attribute, if it counts for a task whose user namespace and its ancestors have these root ids
 abbrev pub if_counts : List ℕ → Attribute → Option Attribute

@@ -1,4 +1,5 @@
--- The bits of a mode that a change of a file tests or clears (inode(7), "The file type and mode").
+-- The bits of a mode that an execve tests, and that a change of a file tests or clears (inode(7),
+-- "The file type and mode").
 use Rattle.std.specs.Prelude.{ℕ, ◌-◌, ◌==◌, Bool, not, bit_and}
 use Rattle.cred_record.specs.File.{LAST_MODE}
 
