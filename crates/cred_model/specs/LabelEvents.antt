@@ -33,39 +33,6 @@ use Rattle.cred_model.specs.Moves.{none_or, fewer_or, not_overridden, in_slot, t
 use Rattle.cred_model.specs.Moves.{with_overrides, holding, preparing, altered, given_up, committed}
 use Rattle.cred_model.specs.Moves.{with_override, overridden}
 
--- The tasks that end with the commit of this change by its task: an execve ends all other threads
--- of the process (execve(2)), and no other change ends any.
-abbrev pub ends_with : Change → Task → Task → Bool
-ends_with (Exec file) task t = is_beside task t
-ends_with change task t = false
-
--- the state in which the broadcast of the task's process is dropped, if the change is an execve
-abbrev pub broadcasts_after : Change → Task → State → State
-broadcasts_after (Exec file) task s = record s { broadcasts = dropped task.process s.broadcasts }
-broadcasts_after change task s = s
-
--- what is answered where a change is committed, by what it was
-abbrev pub committed_by : Change → Gains → (number slot count : ℕ) → Answer
-committed_by (Exec file) gains number slot count = Executed number slot count gains
-committed_by change gains number slot count = Sealed number slot
-
--- what a commit answers, where `count` tasks end with it
-abbrev pub commit_answer : Changed → (number slot count : ℕ) → Answer
-commit_answer last number slot count = committed_by last.change last.gains number slot count
-
--- Only a credential whose base is still the task's current one is committed. Another one is stale,
--- and is given up.
-abbrev pub try_commit : State → ℕ → Prepared → Task → Changed → Answer × State
-try_commit s place p owner last =
-    let ends = ends_with last.change owner in
-    let now = committed (ended ends s) place p owner.current last.cred in
-    if owner.current == p.base
-    then (
-      commit_answer last (length s.creds) p.slot (count_by ends s.tasks),
-      record (broadcasts_after last.change owner now) { dumpable = flags_committed s owner last },
-    )
-    else (Stale p.base owner.current, given_up s place p)
-
 -- a label takes hold of this credential
 abbrev pub take_hold : State → ℕ → Numbered → Result (Answer × State) Answer
 take_hold s label taken = do
@@ -130,6 +97,39 @@ by_alter script s label change = do
     made.answer,
     altered s label (record { change = change; cred = made.cred; gains = made.gains }),
   )
+
+-- The tasks that end with the commit of this change by its task: an execve ends all other threads
+-- of the process (execve(2)), and no other change ends any.
+abbrev pub ends_with : Change → Task → Task → Bool
+ends_with (Exec file) task t = is_beside task t
+ends_with change task t = false
+
+-- the state in which the broadcast of the task's process is dropped, if the change is an execve
+abbrev pub broadcasts_after : Change → Task → State → State
+broadcasts_after (Exec file) task s = record s { broadcasts = dropped task.process s.broadcasts }
+broadcasts_after change task s = s
+
+-- what is answered where a change is committed, by what it was
+abbrev pub committed_by : Change → Gains → (number slot count : ℕ) → Answer
+committed_by (Exec file) gains number slot count = Executed number slot count gains
+committed_by change gains number slot count = Sealed number slot
+
+-- what a commit answers, where `count` tasks end with it
+abbrev pub commit_answer : Changed → (number slot count : ℕ) → Answer
+commit_answer last number slot count = committed_by last.change last.gains number slot count
+
+-- Only a credential whose base is still the task's current one is committed. Another one is stale,
+-- and is given up.
+abbrev pub try_commit : State → ℕ → Prepared → Task → Changed → Answer × State
+try_commit s place p owner last =
+    let ends = ends_with last.change owner in
+    let now = committed (ended ends s) place p owner.current last.cred in
+    if owner.current == p.base
+    then (
+      commit_answer last (length s.creds) p.slot (count_by ends s.tasks),
+      record (broadcasts_after last.change owner now) { dumpable = flags_committed s owner last },
+    )
+    else (Stale p.base owner.current, given_up s place p)
 
 -- the change makes what access(2) asks by
 abbrev pub is_access : Change → Bool

@@ -35,17 +35,6 @@ by_init s task process user group ns root = do
       let now = created s first (first_credential user group ns root) slot in
       (Sealed number slot, record now { dumpable = flags_begun s process })))
 
--- A task signals another: the sender's credential and the target's decide, and whether both are of
--- one process (kill(2)).
-abbrev pub by_signal : State → (from hold to target : ℕ) → Result (Answer × State) Answer
-by_signal s from hold to target = do
-  sender ← ok_or (task_of s from) (NoTask from)
-  receiver ← ok_or (task_of s to) (NoTask to)
-  own ← ok_or (held_by s hold) (NoHold hold)
-  other ← ok_or (held_by s target) (NoHold target)
-  let same = sender.process == receiver.process in
-      if may_signal own.cred other.cred same then Ok (Done, s) else Err Eperm
-
 -- spawn: a new thread of the process, which shares the credential of the task that creates it, and
 -- waits where that one waits
 abbrev pub by_spawn : State → ℕ → ℕ → Result (Answer × State) Answer
@@ -109,6 +98,17 @@ abbrev pub by_dumped : State → ℕ → Result (Answer × State) Answer
 by_dumped s task = do
   owner ← ok_or (task_of s task) (NoTask task)
   Ok (Told (told.Flag (is_dumpable s.dumpable owner.process)), s)
+
+-- A task signals another: the sender's credential and the target's decide, and whether both are of
+-- one process (kill(2)).
+abbrev pub by_signal : State → (from hold to target : ℕ) → Result (Answer × State) Answer
+by_signal s from hold to target = do
+  sender ← ok_or (task_of s from) (NoTask from)
+  receiver ← ok_or (task_of s to) (NoTask to)
+  own ← ok_or (held_by s hold) (NoHold hold)
+  other ← ok_or (held_by s target) (NoHold target)
+  let same = sender.process == receiver.process in
+      if may_signal own.cred other.cred same then Ok (Done, s) else Err Eperm
 
 -- A task asks to look into another: its credential and the target's decide, whether both are of one
 -- process, and whether the target's process is dumpable (ptrace(2), "Ptrace access mode checking").
