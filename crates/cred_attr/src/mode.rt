@@ -6,7 +6,7 @@ ghost use Rattle.cred_rules.specs.Files.{may_chmod, given_mode, chmod};
 ghost use Rattle.cred_rules.specs.Modes as modes;
 
 use crate::rights::{in_group, owns};
-use cred_access::capable;
+use cred_access::{SET_GROUP, capable};
 use cred_caps::Cap;
 use cred_record::{Cred, FileInfo, Refusal, copy_attr};
 
