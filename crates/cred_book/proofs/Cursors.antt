@@ -1,26 +1,26 @@
 -- A step of a lane, and what it makes.
-use Rattle.std.proofs.Common.{◌≡◌, ℕ, zero, suc, ◌+◌, ◌<◌, ◌≤◌, List, [], ◌∷◌, ◌++◌, get_or, length, replicate, set, Option, Some, None, is_some, Bool, true}
+use Rattle.std.proofs.Common.{◌≡◌, ℕ, zero, suc, ◌+◌, ◌*◌, ◌<◌, ◌≤◌, List, [], ◌∷◌, ◌++◌, get_or, length, replicate, set, Option, Some, None, is_some, Bool, true}
 use Rattle.std.proofs.Common.{false, MatchOption, refl, sym, ap, ◌∙◌, subst, inl, inr, arith}
 use Rattle.std.specs.List.{count_by, flat_map, range_with_len, sum_by}
 use Rattle.std.specs.Option.{IfSome, option_map, option_and_then}
-use Rattle.std.proofs.lemmas.List.{length-replicate, length-set}
-use Rattle.std.proofs.lemmas.List.Sums.{sum_by-set}
+use Rattle.std.proofs.lemmas.List.{length-replicate, length-set, length_push}
+use Rattle.std.proofs.lemmas.List.Sums.{sum_by-cons, sum_by-set}
 use Rattle.std.proofs.lemmas.Option.{get_or_from_slice_get, slice_get_within}
-use Rattle.cred_ids.specs.Limits.{LINE_LIMIT}
+use Rattle.cred_ids.specs.Limits.{LAST_LANE, LINE_LIMIT}
 use Rattle.cred_record.specs.Credential.{Credential}
 use Rattle.cred_event.specs.declared.event.Event.{Event}
 use Rattle.cred_event.specs.declared.entry.Entry.{Entry}
 use Rattle.cred_model.specs.FileChanges.{FixesFiles}
 use Rattle.cred_model.specs.Script.{Script, Line, SetupFirst}
 use Rattle.cred_model.specs.Course as model
-use Rattle.cred_model.specs.Course.{Course, Leads, event_at}
+use Rattle.cred_model.specs.Course.{Course, Leads, event_at, start}
 use Rattle.cred_model.specs.Journal.{SoFar, entry_of, next, replay}
 use Rattle.cred_script.specs.Lines.{line_at}
 use Rattle.cred_script.specs.Lanes.{lanes}
 use Rattle.cred_course.specs.Cursor.{IsLaneCursor, IsOfLine, MovesOnTo, left_at}
 use Rattle.cred_course.specs.LaneCursors.{AreCursors, AreOver, IsLeast, cursor_of, due_of}
 use Rattle.cred_course.proofs.AllLanes.{cursor_at}
-use Rattle.cred_course.proofs.Courses.{line_is, of_line}
+use Rattle.cred_course.proofs.Courses.{few_left, few_wait_at, line_is, of_line}
 use Rattle.cred_course.proofs.Lanes.{SoFar-push, due_here, lane_goes_on, lane_makes_due, lane_of_course, lane_of_line}
 use Rattle.cred_course.proofs.Least.{least_due, least_is_due, none_due}
 use Rattle.cred_course.proofs.Turns.{due_is, lanes_go_on, next_none, next_some, stands_at}
@@ -30,7 +30,7 @@ use Rattle.cred_tables.specs.Out.{needs_tokens}
 use Rattle.cred_course.proofs.StagesLeft.{stage_is}
 use Rattle.cred_book.specs.Book.{Recorded, out_of}
 use Rattle.cred_book.specs.Counts.{AreEnded, Counts, HasEntered, IsSameOrNext, count_of, ended_of, lines_in}
-use Rattle.cred_book.specs.Cursor.{NoLineIsLeft, IsLeastLane, steps_left, BookStands, Makes}
+use Rattle.cred_book.specs.Cursor.{MOST_STEPS, NoLineIsLeft, IsLeastLane, steps_left, BookStands, Makes}
 use Rattle.cred_course.specs.Waiting.{waiting}
 use Rattle.cred_book.specs.Cursor.{has_left}
 use Rattle.cred_book.specs.Works.{AreNamedApart, IsOutOf, lane_tokens}
@@ -65,7 +65,7 @@ sum_moved f cursors lane course to is =
     ∙ sum_by-set f cursors lane to None (slice_get_within cursors lane (Some course) at)
 
 -- the event that is due has an entry, and fewer steps are left after it
-entry_falls : (script : Script) (journal : List Entry) (cursors : List (Option Course)) (lane : ℕ) (course : Course) (event : Event) (to : Option Course)
+pub entry_falls : (script : Script) (journal : List Entry) (cursors : List (Option Course)) (lane : ℕ) (course : Course) (event : Event) (to : Option Course)
     → AreCursors script journal cursors → due_of cursors lane ≡ Some course
     → option_and_then (λ (line : Line). event_at line.content course) (line_at script course.line) ≡ Some event
     → let entry = entry_of script journal (record { line = course.line; event = event }) in
@@ -85,6 +85,11 @@ entry_falls script journal cursors lane course event to at due has passes =
     let fell = step_falls script journal course stage.stage line event stage.is here own (due_here script journal course event stands.0 has) in
     let moved = sum_moved (left_at script) cursors lane course to (due_is cursors lane course due).1 in
     omega (arith, most, fell, moved)
+
+-- so there are no more entries than there may be
+few_more : (journal : List Entry) (entry : Entry) (before after : ℕ) → length journal + before ≤ MOST_STEPS → after < before
+    → length (journal ++ entry ∷ []) + after ≤ MOST_STEPS
+few_more journal entry before after most fell = omega (arith, most, fell, length_push journal entry)
 
 same_or_next : (was is : ℕ) (b : Bool) → is ≡ was + count_of b → IsSameOrNext was is
 same_or_next was is true more = inr more
@@ -132,6 +137,7 @@ moves {book = book} {lane = lane} {course = course} {event = event} {to = to} go
     let now = lanes_go_on script book.journal book.cursors lane course entry to stands.cursors goes.due refl goes.passes in
     let own = lane_goes_on script book.journal lane course entry to at refl goes.passes in
     let within = lane_in script book.journal lane course at in
+    let fell = entry_falls script book.journal book.cursors lane course event to stands.cursors goes.due goes.has goes.passes in
     record {
       script = refl;
       stands = record {
@@ -140,6 +146,7 @@ moves {book = book} {lane = lane} {course = course} {event = event} {to = to} go
         ended = all_grow script book.journal book.ended lane course entry to at refl own stands.ended (omega (arith, within, stands.places));
         places = length-set book.ended lane (get_or book.ended lane 0 + count_of (has_left to course.line)) ∙ stands.places;
         few = stands.few;
+        most = few_more book.journal entry _ _ stands.most fell;
         setup = stands.setup;
         fixed = stands.fixed;
         named = stands.named;
@@ -150,7 +157,7 @@ moves {book = book} {lane = lane} {course = course} {event = event} {to = to} go
       entry = entry;
       next = comes;
       entered = refl;
-      falls = entry_falls script book.journal book.cursors lane course event to stands.cursors goes.due goes.has goes.passes;
+      falls = fell;
       counts = entry_counts goes outs words places out own now;
     }
 
@@ -178,11 +185,55 @@ pub record IsNew (book : Recorded) : Type 0 where
   pub ended : AreEnded book.script [] book.ended
   pub places : length book.ended ≡ lanes book.script.lines + 1
   pub few : length book.script.lines ≤ LINE_LIMIT
+  pub last : lanes book.script.lines ≤ LAST_LANE
   pub setup : SetupFirst book.script
   pub fixed : FixesFiles book.script
   pub named : AreNamedApart book.script.lines
   pub outs : book.outs ≡ replicate (lanes book.script.lines + 1) None
   pub lent : book.words.out ≡ []
+
+-- ---- the first steps
+
+-- no more are left of a lane than its lines may have
+few_of_lane : (script : Script) (lane : ℕ) (cursor : Option Course) → length script.lines ≤ LINE_LIMIT → IsLaneCursor script [] lane cursor
+    → left_at script cursor ≤ 3040000
+few_of_lane script lane None few at = omega arith
+few_of_lane script lane (Some course) few at =
+    let first : course ≡ start (at.0.place + 1) at.0.line.content = at.0.stands in
+    let number = at.0.number in
+    let left : model.left course ≤ 86 = subst (λ c. model.left c ≤ 86) (sym first) (few_left at.0.line.content (at.0.place + 1)) in
+    let wait = few_wait_at script course in
+    omega (arith, few, number, left, wait)
+
+-- nor of all of them, where none stands past these
+few_of_lanes : (script : Script) (cursors : List (Option Course)) (n : ℕ)
+    → ((lane : ℕ) → left_at script (cursor_of cursors lane) ≤ 3040000) → ((lane : ℕ) → n ≤ lane → cursor_of cursors lane ≡ None)
+    → sum_by (left_at script) cursors ≤ 3040000 * n
+few_of_lanes script [] n each none = omega arith
+few_of_lanes script (cursor ∷ cursors) zero each none =
+    let here : left_at script cursor ≡ 0 = ap (left_at script) (none 0 (omega arith)) in
+    let rest = few_of_lanes script cursors zero (λ lane. each (suc lane)) (λ lane past. none (suc lane) (omega arith)) in
+    omega (arith, here, rest, sum_by-cons (left_at script) cursor cursors)
+few_of_lanes script (cursor ∷ cursors) (suc n) each none =
+    let here : left_at script cursor ≤ 3040000 = each 0 in
+    let rest = few_of_lanes script cursors n (λ lane. each (suc lane)) (λ lane past. none (suc lane) (omega (arith, past))) in
+    omega (arith, here, rest, sum_by-cons (left_at script) cursor cursors)
+
+-- no cursor stands past the last lane
+none_past : (script : Script) (cursors : List (Option Course)) (lane : ℕ) → AreCursors script [] cursors → lanes script.lines < lane
+    → cursor_of cursors lane ≡ None
+none_past script cursors lane at past = by (cursor_of cursors lane) (at lane)
+  where
+    by : (o : Option Course) → IsLaneCursor script [] lane o → o ≡ None
+    by None is = refl
+    by (Some course) is = let within = lane_in script [] lane course is in absurd (omega (arith, within, past))
+
+few_first : (script : Script) (cursors : List (Option Course)) → length script.lines ≤ LINE_LIMIT → lanes script.lines ≤ LAST_LANE
+    → AreCursors script [] cursors → length {A = Entry} [] + (sum_by (left_at script) cursors + waiting (replay script [])) ≤ MOST_STEPS
+few_first script cursors few last at =
+    let all = few_of_lanes script cursors 17 (λ lane. few_of_lane script lane (cursor_of cursors lane) few (at lane))
+    (λ lane past. none_past script cursors lane at (omega (arith, last, past))) in
+    omega (arith, all)
 
 pub nothing_run : (book : Recorded) → IsNew book → BookStands book
 nothing_run book is =
@@ -193,6 +244,8 @@ nothing_run book is =
       ended = subst (λ (j : List Entry). AreEnded book.script j book.ended) (sym is.journal) is.ended;
       places = is.places;
       few = is.few;
+      most = subst (λ (j : List Entry). length j + (sum_by (left_at book.script) book.cursors + waiting (replay book.script j)) ≤ MOST_STEPS) (sym is.journal)
+          (few_first book.script book.cursors is.few is.last is.cursors);
       setup = is.setup;
       fixed = is.fixed;
       named = is.named;

@@ -1,5 +1,5 @@
 -- A book when an event is made and entered.
-use Rattle.std.proofs.Common.{◌≡◌, ℕ, ◌==◌, true, false, List, [], ◌∷◌, ◌++◌, slice_get, Option, None, Some, refl, sym, ap, ◌∙◌, subst}
+use Rattle.std.proofs.Common.{◌≡◌, ℕ, ◌==◌, true, false, List, [], ◌∷◌, ◌++◌, slice_get, Option, None, Some, refl, sym, ap, ◌∙◌, subst, append_assoc}
 use Rattle.std.specs.List.{count_by}
 use Rattle.std.specs.Option.{option_map, option_map_or}
 use Rattle.std.proofs.lemmas.Option.{slice_get-map}
@@ -32,6 +32,10 @@ Follows script state journal = IsLike state (replay script journal) × IsAnswere
 
 pub follows_sound : (script : Script) (state : State) (journal : List Entry) → Follows script state journal → IsSound state
 follows_sound script state journal follows = like_sound state (replay script journal) follows.0 (sound_after script journal)
+
+-- an entry more of this part is one of the journal
+pub all_grown : (earlier old new : List Entry) (entry : Entry) → new ≡ old ++ entry ∷ [] → earlier ++ new ≡ (earlier ++ old) ++ entry ∷ []
+all_grown earlier old new entry is = ap (λ js. earlier ++ js) is ∙ sym (append_assoc earlier old (entry ∷ []))
 
 -- what an event does after the journal
 pub replays : (script : Script) (before after : State) (journal : List Entry) (entry : Entry) → Follows script before journal

@@ -15,3 +15,4 @@ pub mod ListAnswers
 pub mod Entered
 pub mod Ends
 pub mod Places
+pub mod Rest

@@ -237,6 +237,7 @@ module _ (book : Recorded) (lane line : ℕ) (event : Event) (lent : Lent) (stan
     ended = stands.ended;
     places = stands.places;
     few = stands.few;
+    most = stands.most;
     setup = stands.setup;
     fixed = stands.fixed;
     named = stands.named;

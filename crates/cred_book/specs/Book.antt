@@ -13,13 +13,14 @@ use Rattle.cred_model.specs.Step.{step}
 use Rattle.cred_model.specs.Journal.{replay, entry_of}
 use Rattle.cred_tables.specs.Kept.{Words}
 
--- A script, the journal of its run so far, and for each lane a cursor, the course of a line or
--- none, the number of its lines that have ended, and the line whose work is out, or none; the
--- shared words that the credentials stand in, and for each slot the credential that stands in its
--- words, if one does.
+-- A script, the journal of its run so far, and those of its entries that are of earlier parts and
+-- not kept any more; for each lane a cursor, the course of a line or none, the number of its lines
+-- that have ended, and the line whose work is out, or none; the shared words that the credentials
+-- stand in, and for each slot the credential that stands in its words, if one does.
 pub record Recorded : Type 0 where
   pub script : Script
   pub journal : List Entry
+  pub earlier : List Entry
   pub cursors : List (Option Course)
   pub ended : List ℕ
   pub outs : List (Option ℕ)

@@ -26,17 +26,28 @@ use Rattle.cred_book.specs.declared.step.Step.{Step}
 use Rattle.cred_book.specs.declared.step.Step.TheVariants.{More, Ended}
 use Rattle.cred_book.specs.declared.step.Step.TheVariants as step
 
+-- how many steps may be left, at most: those of each lane's lines, and those of the tasks that wait
+abbrev pub steps_left : Recorded → ℕ
+steps_left book =
+    sum_by (left_at book.script) book.cursors + waiting (replay book.script book.journal)
+
+-- how many entries a journal has, at most: 152 for each of 20,000 lines, for 17 lanes, as all of the
+-- lines may be of any of them
+abbrev pub MOST_STEPS : ℕ
+MOST_STEPS = 51680000
+
 -- Each entry is the next one of its line's lane after the entries before it, and each lane's cursor
 -- and its count of ended lines are the journal's. The script has no more lines than one may have,
--- the setup's come first, those that change a file are among them, and no label stands in the lines
--- of two lanes. Each work that is out is that of its lane's next event, and what is lent is just
--- the tokens of these works.
+-- and the journal no more entries. The setup's lines come first, those that change a file are among
+-- them, and no label stands in the lines of two lanes. Each work that is out is that of its lane's
+-- next event, and what is lent is just the tokens of these works.
 pub record BookStands (book : Recorded) : Type 0 where
   pub so_far : SoFar book.script book.journal
   pub cursors : AreCursors book.script book.journal book.cursors
   pub ended : AreEnded book.script book.journal book.ended
   pub places : length book.ended ≡ lanes book.script.lines + 1
   pub few : length book.script.lines ≤ LINE_LIMIT
+  pub most : length book.journal + steps_left book ≤ MOST_STEPS
   pub setup : SetupFirst book.script
   pub fixed : FixesFiles book.script
   pub named : AreNamedApart book.script.lines
@@ -56,11 +67,6 @@ moved_on book lane line cursor = record book {
   ended = set book.ended lane
       (slice_index_or book.ended lane 0 + count_of (has_left cursor line));
 }
-
--- how many steps may be left, at most: those of each lane's lines, and those of the tasks that wait
-abbrev pub steps_left : Recorded → ℕ
-steps_left book =
-    sum_by (left_at book.script) book.cursors + waiting (replay book.script book.journal)
 
 -- What a step of the lane makes, where this is its next entry. One whose event waits for a decision
 -- isn't entered: its work goes out, which isn't decided yet. Where there is none the book is as it

@@ -1,4 +1,5 @@
 pub mod Book
 pub mod Counts
 pub mod Cursor
+pub mod Parts
 pub mod Works

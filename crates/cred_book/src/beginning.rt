@@ -1,6 +1,6 @@
 //! What a book of a script has before anything has run.
 ghost use Rattle.std.specs.Prelude.{◌≡◌, ◌≤◌, ◌+◌, [], length, replicate, None, IfOk, OnOk};
-ghost use Rattle.cred_ids.specs.Limits.{LINE_LIMIT};
+ghost use Rattle.cred_ids.specs.Limits.{LAST_LANE, LINE_LIMIT};
 ghost use Rattle.cred_model.specs.FileChanges.{FixesFiles};
 ghost use Rattle.cred_model.specs.Script.{SetupFirst};
 ghost use Rattle.cred_model.specs.State.{opening};
@@ -9,6 +9,7 @@ ghost use Rattle.cred_course.specs.LaneCursors.{AreCursors};
 ghost use Rattle.cred_book.specs.Counts.{AreEnded};
 ghost use Rattle.cred_book.specs.Works.{AreNamedApart};
 
+use crate::earlier::Earlier;
 use crate::ended::lines_without_events;
 use crate::journal::room_for_entries;
 use crate::outs::none_out;
@@ -21,12 +22,13 @@ use cred_state::State;
 use std::alloc::Global;
 
 /// What a book has before its first event, but for the script: the state, the cells under it, an
-/// empty journal, the cursors and the counts.
+/// empty journal of one part, the cursors and the counts.
 #[derive(Drop)]
 pub(crate) struct Beginning {
     pub(crate) state: State,
     pub(crate) cells: Cells,
-    pub(crate) journal: Vec<Entry>,
+    pub(crate) earlier: Earlier,
+    pub(crate) kept: Vec<Entry>,
     pub(crate) cursors: Cursors,
     pub(crate) ended: Vec<u32>,
     pub(crate) outs: Vec<Option<u32>>,
@@ -42,7 +44,8 @@ pub(crate) fn begin(alloc: Global, script: &Script) -> Result<Beginning, NoMemor
     ensures state { IfOk result (λ begun. begun.state.state ≡ opening script.now) }
     ensures own { IfOk result (λ begun. begun.state.words.id ≡ begun.cells) }
     ensures lent { IfOk result (λ begun. begun.state.words.out ≡ []) }
-    ensures journal { IfOk result (λ begun. begun.journal.items ≡ []) }
+    ensures earlier { IfOk result (λ begun. begun.earlier ≡ []) }
+    ensures kept { IfOk result (λ begun. begun.kept.items ≡ []) }
     ensures cursors { IfOk result (λ begun. AreCursors script.now [] begun.cursors) }
     ensures ended { IfOk result (λ begun. AreEnded script.now [] begun.ended.items) }
     ensures places { IfOk result (λ begun.
@@ -51,18 +54,21 @@ pub(crate) fn begin(alloc: Global, script: &Script) -> Result<Beginning, NoMemor
         begun.outs.items ≡ replicate (lanes script.now.lines + 1) None) }
     ensures named { OnOk result (AreNamedApart script.now.lines) }
     ensures few { OnOk result (length script.now.lines ≤ LINE_LIMIT) }
+    ensures lanes { OnOk result (lanes script.now.lines ≤ LAST_LANE) }
     ensures setup { OnOk result (SetupFirst script.now) }
     ensures fixed { OnOk result (FixesFiles script.now) }
 {
     let cursors = Cursors::new(alloc, script)?;
     let ended = lines_without_events(alloc, script)?;
     let outs = none_out(alloc, script)?;
-    let journal = room_for_entries(alloc, script)?;
+    let earlier = Earlier::none(alloc)?;
+    let kept = room_for_entries(alloc, script)?;
     let (cells, state) = State::new(alloc, script)?;
     Ok(Beginning {
         state,
         cells,
-        journal,
+        earlier,
+        kept,
         cursors,
         ended,
         outs,

@@ -17,10 +17,11 @@ ghost use Rattle.cred_book.specs.Cursor.{NoLineIsLeft, IsLeastLane, Makes, BookS
 ghost use Rattle.cred_book.specs.Cursor.{steps_left, moved_on};
 ghost use Rattle.cred_book.specs.declared.step.Step.TheVariants.{More};
 
+mod parts;
 mod works;
 
 use crate::beginning::{Beginning, begin};
-use crate::journal::Journal;
+use crate::earlier::Earlier;
 use crate::step::Step;
 use cred_copies::copy_answer;
 use cred_course::{Course, Cursors, cursor_after, next_event};
@@ -41,11 +42,15 @@ use std::marker::Model;
 /// credentials stand in the shared words alone. Each token of them that is out is that of its label
 /// in this state.
 ///
+/// The journal comes in parts: the entries of the parts before this one are not kept, and contracts
+/// alone see them.
+///
 /// The memory of the work that came back last is kept for the next one that goes out.
 pub struct Book {
     script: Script,
     state: State,
-    journal: Vec<Entry>,
+    earlier: Earlier,
+    kept: Vec<Entry>,
     cursors: Cursors,
     ended: Vec<u32>,
     outs: Vec<Option<u32>>,
@@ -54,6 +59,7 @@ pub struct Book {
 }
 
 impl Model for Book {
+    ghost use Rattle.std.specs.Prelude.{◌++◌};
     ghost use Rattle.cred_model.specs.Journal.{replay, IsAnswered};
     ghost use Rattle.cred_model.specs.Like.{IsLike};
     ghost use Rattle.cred_tables.specs.Out.{AreOut};
@@ -63,7 +69,8 @@ impl Model for Book {
 
     ghost view = { λ b. record {
       script = b.script;
-      journal = b.journal.items;
+      journal = b.earlier ++ b.kept.items;
+      earlier = b.earlier;
       cursors = b.cursors;
       ended = b.ended.items;
       outs = b.outs.items;
@@ -72,9 +79,9 @@ impl Model for Book {
     } };
 
     ghost invariant = { λ b.
-        (IsLike b.state.state (replay b.script b.journal.items)
-        × IsAnswered b.script b.journal.items)
-        × AreOut (replay b.script b.journal.items) b.state.words.out };
+        (IsLike b.state.state (replay b.script (b.earlier ++ b.kept.items))
+        × IsAnswered b.script (b.earlier ++ b.kept.items))
+        × AreOut (replay b.script (b.earlier ++ b.kept.items)) b.state.words.out };
 }
 
 /// Written out, so that it is proved here alone: with a derived one, each crate above that drops a
@@ -84,7 +91,8 @@ impl Drop for Book {
         let Book {
             script,
             state,
-            journal,
+            earlier,
+            kept,
             cursors,
             ended,
             outs,
@@ -93,7 +101,8 @@ impl Drop for Book {
         } = self;
         drop(script);
         drop(state);
-        drop(journal);
+        drop(earlier);
+        drop(kept);
         drop(cursors);
         drop(ended);
         drop(outs);
@@ -112,6 +121,7 @@ impl Book {
     pub fn new(alloc: Global, script: Script) -> Result<(Book, Cells), NoMemory>
         ensures script { IfOk result (λ made. made.0.script ≡ script) }
         ensures journal { IfOk result (λ made. made.0.journal ≡ []) }
+        ensures earlier { IfOk result (λ made. made.0.earlier ≡ []) }
         ensures stands { IfOk result (λ made. BookStands made.0) }
         ensures own { IfOk result (λ made. made.0.words.id ≡ made.1) }
         ensures home { IfOk result (λ made. (made.0.words.out ≡ [])
@@ -126,7 +136,8 @@ impl Book {
         let Beginning {
             state,
             cells,
-            journal,
+            earlier,
+            kept,
             cursors,
             ended,
             outs,
@@ -134,7 +145,8 @@ impl Book {
         let book = Book {
             script,
             state,
-            journal,
+            earlier,
+            kept,
             cursors,
             ended,
             outs,
@@ -150,39 +162,6 @@ impl Book {
         ensures { result.now ≡ self.now.script }
     {
         &self.script
-    }
-
-    /// The entries, in the order in which they were entered.
-    pub fn journal(&self) -> &[Entry]
-        ensures { result.now ≡ self.now.journal }
-    {
-        &self.journal
-    }
-
-    /// The script and the entries. No memory is taken.
-    pub fn into_journal(self) -> Journal
-        ensures script { result.script ≡ self.script }
-        ensures entries { result.entries.items ≡ self.journal }
-    {
-        let Book {
-            script,
-            state,
-            journal,
-            cursors,
-            ended,
-            outs,
-            spare,
-            alloc: _,
-        } = self;
-        drop(state);
-        drop(cursors);
-        drop(ended);
-        drop(outs);
-        drop(spare);
-        Journal {
-            script,
-            entries: journal,
-        }
     }
 
     /// How many lines of the lane have ended. No memory is taken.
@@ -221,7 +200,7 @@ impl Book {
         ensures err { OnErr result (self.new ≡ record self.old { places = self.new.places }) }
     {
         self.stands();
-        let Ok(()) = self.journal.reserve(1) else {
+        let Ok(()) = self.kept.reserve(1) else {
             drop(event);
             return Err(NoMemory);
         };
@@ -235,7 +214,7 @@ impl Book {
             self.stands();
             return Err(NoMemory);
         };
-        self.journal.push_reserved(Entry {
+        self.kept.push_reserved(Entry {
             line,
             event,
             answer,
@@ -260,6 +239,7 @@ impl Book {
         requires stands { BookStands self.old }
         requires home { out_of self.old lane ≡ None }
         ensures script { self.new.script ≡ self.old.script }
+        ensures earlier { self.new.earlier ≡ self.old.earlier }
         ensures cells { self.new.words.id ≡ self.old.words.id }
         ensures stands { BookStands self.new }
         ensures made { IfOk result (λ step. Makes self.old self.new lane
@@ -301,6 +281,14 @@ impl Book {
         self.cursors.least()
     }
 
+    /// Whether no lane has a line left: then the journal is a legal one. No memory is taken.
+    pub fn has_ended(&self) -> bool
+        requires { BookStands self.now }
+        ensures { result ≡ true → model.IsLegal self.now.script self.now.journal }
+    {
+        self.cursors.has_ended()
+    }
+
     /// Each credential that something refers to, after the journal, stands in the words of its
     /// slot. Nothing runs: it is called for its clause alone.
     #[inline(always)]
@@ -334,7 +322,7 @@ impl Book {
             cursor)) }
         ensures err { OnErr result (self.new ≡ self.old) }
     {
-        let Ok(()) = self.journal.reserve(1) else {
+        let Ok(()) = self.kept.reserve(1) else {
             drop(event);
             return Err(NoMemory);
         };
@@ -344,7 +332,7 @@ impl Book {
             return Err(NoMemory);
         };
         let cursor = cursor_after(&self.script, lane, course, &answer);
-        self.journal.push_reserved(Entry {
+        self.kept.push_reserved(Entry {
             line,
             event,
             answer,

@@ -1,6 +1,6 @@
 //! How many lines have ended before anything has run.
 ghost use Rattle.std.specs.Prelude.{◌≡◌, ◌≤◌, ◌+◌, [], length, IfOk, OnOk};
-ghost use Rattle.cred_ids.specs.Limits.{LINE_LIMIT};
+ghost use Rattle.cred_ids.specs.Limits.{LAST_LANE, LINE_LIMIT};
 ghost use Rattle.cred_model.specs.FileChanges.{FixesFiles};
 ghost use Rattle.cred_model.specs.Script.{SetupFirst};
 ghost use Rattle.cred_script.specs.Lanes.{lanes};
@@ -23,6 +23,7 @@ pub(crate) fn lines_without_events(alloc: Global, script: &Script) -> Result<Vec
     ensures places { IfOk result (λ ended. length ended.items ≡ lanes script.now.lines + 1) }
     ensures named { OnOk result (AreNamedApart script.now.lines) }
     ensures few { length script.now.lines ≤ LINE_LIMIT }
+    ensures lanes { lanes script.now.lines ≤ LAST_LANE }
     ensures setup { SetupFirst script.now }
     ensures fixed { FixesFiles script.now }
 {

@@ -3,11 +3,12 @@
 
 mod beginning;
 mod book;
+mod earlier;
 mod ended;
 mod journal;
 mod outs;
 mod step;
 
 pub use book::Book;
-pub use journal::Journal;
+pub use journal::{LastPart, PART};
 pub use step::{Step, Unfinished};

@@ -7,9 +7,9 @@ ghost use Rattle.cred_ids.specs.Ordered.{in_order};
 ghost use Rattle.cred_model.specs.Broadcasts.{waits_in, with_broadcast, waits_no_more, joined};
 ghost use Rattle.cred_model.specs.Broadcasts.{dropped, WaitsNowhere};
 ghost use Rattle.cred_cast.specs.Broadcasts.{broadcast_under, broadcast_within, broadcast_by};
-ghost use Rattle.cred_cast.specs.Broadcasts.{AreBroadcasts};
+ghost use Rattle.cred_cast.specs.Broadcasts.{AreBroadcasts, MakesOf};
 
-use crate::one_broadcast::{Cast, falling};
+use crate::one_broadcast::{Cast, LastStep, falling};
 use cred_ids::NoMemory;
 use cred_record::IdCall;
 use std::alloc::Global;
@@ -86,6 +86,7 @@ impl Casts {
             caller,
             call,
             waiting,
+            last: None,
         })?;
         Ok(())
     }
@@ -115,6 +116,26 @@ impl Casts {
         ensures { IfSome (slice_get self.now place) (λ b. result.now ≡ b.call) }
     {
         &self.broadcasts[place].call
+    }
+
+    /// The step that was made last in the broadcast at a place, if it is kept: what the call made of
+    /// one credential, as it does of each.
+    #[inline(always)]
+    pub fn last_at(&self, place: usize) -> Option<&LastStep>
+        requires { place < length self.now }
+        ensures { IfSome (slice_get self.now place) (λ b. IfSome result (λ step.
+            MakesOf b.call step.now.before step.now.after step.now.ids_changed)) }
+    {
+        self.broadcasts[place].last()
+    }
+
+    /// Keeps what the call of the broadcast at a place has made of a credential.
+    pub fn keep_at(&mut self, place: usize, step: LastStep)
+        requires { IsSomeAnd (slice_get self.old place) (λ b.
+            MakesOf b.call step.before step.after step.ids_changed) }
+        ensures { self.new ≡ self.old }
+    {
+        self.broadcasts[place].keep(step);
     }
 
     /// A task has made its step in the broadcast at a place: it waits no more. Returns how many

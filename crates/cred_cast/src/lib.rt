@@ -6,3 +6,4 @@ pub mod casts;
 mod one_broadcast;
 
 pub use casts::Casts;
+pub use one_broadcast::LastStep;

@@ -1,19 +1,33 @@
 //! One broadcast.
 ghost use Rattle.std.specs.Prelude.{◌≡◌, ◌<◌, ◌+◌, length, reverse, slice_get, [], ◌∷◌, ◌++◌};
-ghost use Rattle.std.specs.Prelude.{IfOk, OnOk, OnErr};
+ghost use Rattle.std.specs.Prelude.{IfOk, IfSome, OnOk, OnErr};
 ghost use Rattle.std.specs.List.{AllPairs};
 ghost use Rattle.cred_ids.specs.Ordered.{in_order};
 ghost use Rattle.cred_model.specs.Broadcasts.{is_open, waits_in, without_waiter};
+ghost use Rattle.cred_cast.specs.Broadcasts.{MakesOf};
 
 use cred_ids::NoMemory;
+use cred_packed::Head;
 use cred_record::IdCall;
 use std::alloc::Global;
 use std::marker::Model;
 
+/// What a broadcast's call made of the credential of the thread that made its step last, where
+/// neither has groups: the words of both. The next thread mostly has the same credential, and then
+/// the call makes the same of it.
+#[derive(Clone, Copy, Debug, Drop)]
+pub struct LastStep {
+    pub before: Head,
+    pub after: Head,
+    /// An effective or a filesystem id is another one in `after`.
+    pub ids_changed: bool,
+}
+
 /// A call that every thread of a process makes, one after another: the line that began it, the
 /// process, the thread that made it first, and those that still have to make it. Contracts see
 /// these in rising order. They stand in falling order, so that the least, which is the next to make
-/// the call, is taken from the end.
+/// the call, is taken from the end. The step that was made last may be kept beside them, which
+/// contracts don't see: it ends with its broadcast.
 #[derive(Drop, Debug)]
 pub struct Cast {
     pub number: u32,
@@ -21,11 +35,13 @@ pub struct Cast {
     pub caller: u32,
     pub call: IdCall,
     pub waiting: Vec<u32>,
+    pub last: Option<LastStep>,
 }
 
 impl Model for Cast {
-    ghost use Rattle.std.specs.Prelude.{reverse};
+    ghost use Rattle.std.specs.Prelude.{reverse, IfSome};
     ghost use Rattle.cred_model.specs.State.{Broadcast};
+    ghost use Rattle.cred_cast.specs.Broadcasts.{MakesOf};
 
     ghost Value = { Broadcast };
 
@@ -36,6 +52,9 @@ impl Model for Cast {
       call = c.call;
       waiting = reverse c.waiting.items;
     } };
+
+    ghost invariant = { λ c. IfSome c.last (λ step.
+        MakesOf c.call step.before step.after step.ids_changed) };
 }
 
 impl Cast {
@@ -95,6 +114,23 @@ impl Cast {
         } else {
             self.leave(task);
         }
+    }
+
+    /// The step that was made last, if it is kept.
+    #[inline(always)]
+    pub fn last(&self) -> Option<&LastStep>
+        ensures { IfSome result (λ step.
+            MakesOf self.now.call step.now.before step.now.after step.now.ids_changed) }
+    {
+        self.last.as_ref()
+    }
+
+    /// Keeps a step, in place of one that was kept before.
+    pub fn keep(&mut self, step: LastStep)
+        requires { MakesOf self.old.call step.before step.after step.ids_changed }
+        ensures { self.new ≡ self.old }
+    {
+        self.last = Some(step);
     }
 
     /// A task waits no more.

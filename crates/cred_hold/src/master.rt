@@ -1,6 +1,6 @@
 //! The master of the shared words: what it lends, and what it takes back.
 ghost use Rattle.std.specs.Prelude.{◌≡◌, ◌≢◌, ◌<◌, [], ◌∷◌, Some, None, IfOk, length, slice_get};
-ghost use Rattle.std.specs.Prelude.{slice_set};
+ghost use Rattle.std.specs.Prelude.{slice_set, ◌↔◌, IsTrue, MatchOption};
 ghost use Rattle.cred_ids.specs.Limits.{SLOTS};
 ghost use Rattle.cred_words.specs.Lists.{IsTaken};
 ghost use Rattle.cred_record.specs.Credential.{Credential, AreValidSets};
@@ -9,11 +9,12 @@ ghost use Rattle.cred_hold.specs.Tokens.{loan, none_sealed, IsSealed, IsAlone};
 
 use crate::like::{put_like, read_sealed_parts};
 use crate::parts::known_ns;
-use crate::tokens::{Hold, Writer, put};
-use crate::words::{load_sealed, read_sealed};
+use crate::tokens::{Hold, Writer, put, put_head};
+use crate::words::{is_sealed_head, load_sealed, read_sealed};
 use cred_ids::{Groups, NoMemory};
+use cred_packed::Head;
 use cred_record::Cred;
-use cred_record::layout::NAMESPACE;
+use cred_record::layout::{GROUPS, NAMESPACE};
 use cred_setid::IdParts;
 use cred_words::{Cells, cells};
 use std::alloc::Global;
@@ -172,6 +173,31 @@ impl Master {
         known_ns(load_sealed::<1>(&mut self.inner, cells, slot, NAMESPACE))
     }
 
+    /// The words of the credential of a sealed slot. `None` exactly where it has groups. It takes no
+    /// memory. What is lent stays.
+    pub fn head(&mut self, cells: &Cells, slot: u32) -> Option<Head>
+        requires own { self.old.id ≡ cells.now }
+        requires sealed { IsSealed self.old.slots slot }
+        ensures head { (c : Credential) → slice_get self.old.slots slot ≡ Some (Some c) →
+            MatchOption result (c.groups ≢ []) (λ head. head ≡ c) }
+        ensures same { self.new ≡ self.old }
+    {
+        Head::of(load_sealed::<GROUPS>(&mut self.inner, cells, slot, 0))
+    }
+
+    /// Whether the credential of a sealed slot is the one that has these words. It takes no memory.
+    /// What is lent stays.
+    #[inline(always)]
+    pub fn has_head(&mut self, cells: &Cells, slot: u32, head: &Head) -> bool
+        requires own { self.old.id ≡ cells.now }
+        requires sealed { IsSealed self.old.slots slot }
+        ensures value { IsTrue result
+            ↔ slice_get self.old.slots slot ≡ Some (Some head.now) }
+        ensures same { self.new ≡ self.old }
+    {
+        is_sealed_head(&mut self.inner, cells, slot, head)
+    }
+
     /// Puts a credential on a slot on which nothing is lent, for the owner of the master: a writer
     /// is lent, put by and taken back. What else is lent stays. It takes no memory.
     pub fn set(&mut self, cells: &Cells, slot: u32, cred: &Cred)
@@ -185,6 +211,22 @@ impl Master {
     {
         let mut writer = self.lend_writer(cells, 0, slot);
         put(cells, &mut writer, cred);
+        self.take_back(cells, writer);
+    }
+
+    /// Puts the credential that has these words on a slot on which nothing is lent, as `set` does.
+    #[inline(always)]
+    pub fn set_head(&mut self, cells: &Cells, slot: u32, head: &Head)
+        requires own { self.old.id ≡ cells.now }
+        requires within { slot < SLOTS }
+        requires alone { IsAlone self.old.loans slot }
+        ensures made { self.new ≡ record self.old {
+          slots = slice_set self.old.slots slot (Some head.now);
+        } }
+        ensures long { length self.old.slots ≡ SLOTS }
+    {
+        let mut writer = self.lend_writer(cells, 0, slot);
+        put_head(cells, &mut writer, head);
         self.take_back(cells, writer);
     }
 

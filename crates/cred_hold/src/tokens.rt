@@ -2,10 +2,10 @@
 ghost use Rattle.std.specs.Prelude.{◌≡◌, Some, None, IfOk, [], ◌∷◌};
 
 use crate::parts::{known_caps, known_ids};
-use crate::words::{gather, groups_of, read_whole, scatter};
+use crate::words::{gather, groups_of, read_whole, scatter, scatter_head};
 use cred_caps::CapSet;
 use cred_ids::{Groups, Ids4, NoMemory};
-use cred_packed::group_count;
+use cred_packed::{Head, group_count};
 use cred_record::layout::{FLAGS, PERMITTED, USER};
 use cred_record::{Cred, is_credential};
 use cred_words::{Cells, cells};
@@ -141,6 +141,17 @@ pub fn put(cells: &Cells, writer: &mut Writer, cred: &Cred)
 {
     is_credential(cred);
     scatter(cells, &mut writer.inner, writer.slot, cred);
+    writer.put = true;
+}
+
+/// Puts the credential of a head on the writer's slot. It takes no memory and waits for nobody.
+#[inline(always)]
+pub(crate) fn put_head(cells: &Cells, writer: &mut Writer, head: &Head)
+    requires { writer.old.id ≡ cells.now }
+    ensures { writer.new ≡ record writer.old { put = Some head.now } }
+{
+    head.is_credential();
+    scatter_head(cells, &mut writer.inner, writer.slot, head);
     writer.put = true;
 }
 

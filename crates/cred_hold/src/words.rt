@@ -1,5 +1,5 @@
 //! The words of a slot, loaded or stored one after another.
-ghost use Rattle.std.specs.Prelude.{◌≡◌, ◌+◌, ◌≤◌, ℕ, None, true, IfOk, length};
+ghost use Rattle.std.specs.Prelude.{◌≡◌, ◌↔◌, ◌+◌, ◌≤◌, ℕ, None, true, IfOk, IsTrue, length};
 ghost use Rattle.std.specs.Prelude.{take, drop, slice_index};
 ghost use Rattle.cred_record.specs.Words.{are_words, credential_in, group_count, words_of};
 ghost use Rattle.cred_record.specs.declared.layout.TheConstants.{FLAGS};
@@ -9,7 +9,9 @@ ghost use Rattle.cred_words.specs.Words.{put_words, words_at};
 ghost use Rattle.cred_hold.specs.Tokens.{IsAgain, AreZeros};
 
 use cred_ids::{Groups, NoMemory};
-use cred_packed::{group_count, head, known_group, known_head, word_of_groups, words_of_groups};
+use cred_packed::{
+    Head, group_count, head, known_group, known_head, word_of_groups, words_of_groups,
+};
 use cred_record::Cred;
 use cred_record::layout::{FLAGS, GROUPS};
 use cred_words::cells::{Cells, Hold, Master, Writer, load_own_word, load_word, settle_word};
@@ -174,4 +176,61 @@ pub(crate) fn scatter(cells: &Cells, writer: &mut Writer, slot: u32, cred: &Cred
         GROUPS + end,
         GROUPS + count.div_ceil(2),
     );
+}
+
+/// Puts the credential of a head in the slot that is written, whose words are a credential's: of
+/// the words past it only those that have old groups are cleared.
+#[inline(always)]
+pub(crate) fn scatter_head(cells: &Cells, writer: &mut Writer, slot: u32, head: &Head)
+    requires own { writer.old.id ≡ cells.now }
+    requires slot { slot ≡ writer.old.token.slot }
+    requires known { are_words writer.old.token.words ≡ true }
+    ensures { (writer.new.id ≡ writer.old.id)
+        × (writer.new.token ≡ put_words writer.old.token (words_of head.now)) }
+{
+    head.is_credential();
+    let before = group_count(load_own_word(cells, writer, slot, FLAGS));
+    for i in 0..GROUPS {
+        settle_word(cells, writer, slot, i, head.word(i));
+    }
+    clear(cells, writer, slot, GROUPS, GROUPS + before.div_ceil(2));
+}
+
+/// Whether the credential that is held is the one of a head: whether it has these words, each of
+/// which is loaded at a moment of its own.
+#[inline(always)]
+pub(crate) fn is_head(cells: &Cells, hold: &mut Hold, slot: u32, head: &Head) -> bool
+    requires own { hold.old.id ≡ cells.now }
+    requires slot { slot ≡ hold.old.token.slot }
+    requires known { are_words hold.old.token.words ≡ true }
+    ensures value { IsTrue result ↔ credential_in hold.old.token.words ≡ head.now }
+    ensures same { hold.new ≡ hold.old }
+{
+    head.is_credential();
+    for i in 0..GROUPS {
+        if load_word(cells, hold, slot, i) != head.word(i) {
+            return false;
+        }
+    }
+    true
+}
+
+/// Whether the credential of a sealed slot whose words are a credential's is the one of a head, by
+/// a hold that is lent and comes back. What else is lent stays.
+#[inline(always)]
+pub(crate) fn is_sealed_head(master: &mut Master, cells: &Cells, slot: u32, head: &Head) -> bool
+    requires own { master.old.id ≡ cells.now }
+    requires empty { master.old.ledger.kept ≡ None }
+    requires sealed { IsSealedSlot master.old.ledger slot }
+    requires known { are_words (words_at master.old.ledger.slots slot) ≡ true }
+    ensures value { IsTrue result
+        ↔ credential_in (words_at master.old.ledger.slots slot) ≡ head.now }
+    ensures same { (master.new.id ≡ master.old.id)
+        × IsAgain master.old.ledger master.new.ledger }
+{
+    let mut hold = master.lend_hold(cells, 0, slot);
+    let is = is_head(cells, &mut hold, slot, head);
+    master.return_hold(cells, hold);
+    master.load_after_return(cells, false);
+    is
 }

@@ -48,9 +48,11 @@ pub record IsNewKernel (book : Recorded) (roll : Rolled) : Type 0 where
   pub ready : IsReadyBook book
   pub rows : roll.rows ≡ replicate (lanes book.script.lines) (home_row fresh)
 
--- what lies under the lock: the journal and the rows
+-- what lies under the lock: the journal, those of its entries that are of earlier parts, and the
+-- rows
 pub record Contents : Type 0 where
   pub journal : List Entry
+  pub earlier : List Entry
   pub rows : List LaneRow
 
 -- each of the script's lanes has a row, which is lent and has the lane's numbers in the book

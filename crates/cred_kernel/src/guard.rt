@@ -6,8 +6,8 @@ ghost use Rattle.cred_book.specs.declared.step.Step.TheVariants.{More};
 ghost use Rattle.cred_kernel.specs.Advances.{Advanced, TurnHasEntered};
 
 use crate::cells::KernelCells;
-use crate::locked::Locked;
-use crate::name::Name;
+use crate::in_part::InPart;
+use crate::name::{Name, Part};
 use crate::turns::Turn;
 use cred_book::{Step, Unfinished};
 use cred_ids::NoMemory;
@@ -16,15 +16,16 @@ use std::marker::Model;
 use std::sync::MutexGuard;
 
 /// The lock of a kernel, which one thread has, with the turn of the thread's lane: others wait
-/// until it is released. The turn comes back when the lock is released, and no sooner. So whoever
-/// has the lock has no turn in hand, and can't decide. Contracts see the turn.
-pub struct KernelGuard<'k, K: Name> {
+/// until it is released. The turn comes back when the lock is released, and no sooner. So a worker,
+/// which has one turn, has none in hand while it has the lock, and can't decide. Contracts see the
+/// turn.
+pub struct KernelGuard<'k, K: Name, J: Part> {
     pub(crate) cells: &'k KernelCells<K>,
-    pub(crate) locked: MutexGuard<'k, Locked<K>>,
+    pub(crate) locked: MutexGuard<'k, InPart<K, J>>,
     pub(crate) turn: Turn<K>,
 }
 
-impl<'k, K: Name> Model for KernelGuard<'k, K> {
+impl<'k, K: Name, J: Part> Model for KernelGuard<'k, K, J> {
     ghost use Rattle.cred_kernel.specs.Turns.{SeenTurn};
 
     ghost Value = { SeenTurn };
@@ -33,7 +34,7 @@ impl<'k, K: Name> Model for KernelGuard<'k, K> {
 }
 
 /// Written out, so that it is proved here alone.
-impl<K: Name> Drop for KernelGuard<'_, K> {
+impl<K: Name, J: Part> Drop for KernelGuard<'_, K, J> {
     fn drop(self) {
         let KernelGuard {
             cells: _,
@@ -45,12 +46,19 @@ impl<K: Name> Drop for KernelGuard<'_, K> {
     }
 }
 
-impl<K: Name> KernelGuard<'_, K> {
+impl<K: Name, J: Part> KernelGuard<'_, K, J> {
     /// How many events of the lane have been entered.
     pub fn entered(&self) -> u64
         ensures { result ≡ self.now.numbers.entered }
     {
         self.turn.entered()
+    }
+
+    /// Whether the part of the journal has as many entries as it should have.
+    // Called for each event of a lane.
+    #[inline(always)]
+    pub fn is_full(&self) -> bool {
+        self.locked.is_full()
     }
 
     /// Makes the next event of the lane, or hands it out as a work where it waits for a decision.

@@ -1,19 +1,12 @@
 //! What the lanes' threads share.
-ghost use Rattle.std.specs.Prelude.{◌≡◌, IfOk};
-ghost use Rattle.cred_model.specs.Journal.{IsLegal};
-ghost use Rattle.cred_kernel.specs.Turns.{AreAllTurns, AreCounted, AreFresh, HaveEnded};
+ghost use Rattle.std.specs.Prelude.{◌≡◌};
 
 use crate::cells::KernelCells;
 use crate::guard::KernelGuard;
-use crate::locked::Locked;
-use crate::name::Name;
-use crate::parts::Parts;
-use crate::passes::{lend_all, take_all};
-use crate::turns::{Turn, TurnList};
-use cred_book::Journal;
-use cred_ids::NoMemory;
-use std::alloc::Global;
-use std::marker::PhantomData;
+use crate::in_part::InPart;
+use crate::name::{Name, Part};
+use crate::rest::Rest;
+use crate::turns::Turn;
 use std::sync::{Mutex, MutexGuard, Wait};
 use std::thread::Parker;
 use std::time::Duration;
@@ -29,15 +22,16 @@ const NAP: u64 = 500;
 const NAPS: u32 = 100;
 
 /// A book and a roll behind one lock, and the book's cells beside it, which the threads of all
-/// lanes share. Whenever the lock is free, the book is of the name's script and cells, its files
-/// stand as the name's do, and the roll is the name's.
-pub struct Kernel<K: Name> {
+/// lanes share while a part of the journal is made. Whenever the lock is free, the book is of the
+/// name's script and cells, its files stand as the name's do, the roll is the name's, and the
+/// entries of earlier parts are the part's.
+pub struct Kernel<K: Name, J: Part> {
     cells: KernelCells<K>,
-    lock: Mutex<Locked<K>>,
+    lock: Mutex<InPart<K, J>>,
 }
 
 /// Written out, so that it is proved here alone.
-impl<K: Name> Drop for Kernel<K> {
+impl<K: Name, J: Part> Drop for Kernel<K, J> {
     fn drop(self) {
         let Kernel { cells, lock } = self;
         drop(cells);
@@ -45,41 +39,27 @@ impl<K: Name> Drop for Kernel<K> {
     }
 }
 
-impl<K: Name> Kernel<K> {
-    /// The kernel of these parts, and a turn for each lane from 1, in order. Of each of these lanes
-    /// nothing has run; only its lines that make no event count as ended.
-    ///
-    /// # Errors
-    ///
-    /// `NoMemory` if the allocation of the list of turns fails.
-    pub fn new(alloc: Global, parts: Parts) -> Result<(Kernel<K>, TurnList<K>), NoMemory>
-        requires script { parts.script ≡ K.script }
-        requires roll { parts.roll ≡ K.roll }
-        requires cells { parts.cells ≡ K.cells }
-        requires infos { parts.infos ≡ K.infos }
-        ensures { IfOk result (λ made. AreFresh K.script made.1) }
+impl<K: Name, J: Part> Kernel<K, J> {
+    /// The kernel, in the part of its journal that begins here.
+    pub fn start(rest: Rest<K>) -> Kernel<K, J>
+        requires { rest.earlier ≡ J.earlier }
     {
-        let Parts {
-            book,
+        let (cells, locked) = rest.apart();
+        Kernel {
             cells,
-            mut roll,
-        } = parts;
-        let Ok(turns) = lend_all(alloc, &book, &mut roll) else {
-            drop(book);
-            return Err(NoMemory);
-        };
-        let locked = Locked {
-            book,
-            roll,
-            of: PhantomData,
-        };
-        Ok((
-            Kernel {
-                cells: KernelCells::of(cells),
-                lock: Mutex::new(locked),
-            },
-            turns,
-        ))
+            lock: Mutex::new(InPart::of(locked)),
+        }
+    }
+
+    /// The kernel once nobody shares it any more.
+    pub fn stop(self) -> Rest<K>
+        ensures { result.earlier ≡ J.earlier }
+    {
+        let Kernel { cells, lock } = self;
+        Rest {
+            cells,
+            locked: lock.into_inner().into_locked(),
+        }
     }
 
     /// Its cells, on which works are decided.
@@ -91,7 +71,7 @@ impl<K: Name> Kernel<K> {
     /// is released.
     // Mostly the lock is free, and then there is nothing to nap on.
     #[inline(always)]
-    pub fn lock<R: Wait>(&self, rt: &R, turn: Turn<K>) -> KernelGuard<'_, K>
+    pub fn lock<R: Wait>(&self, rt: &R, turn: Turn<K>) -> KernelGuard<'_, K, J>
         ensures { result ≡ turn }
     {
         let locked = match self.lock.try_lock() {
@@ -108,7 +88,7 @@ impl<K: Name> Kernel<K> {
     /// Gets the lock once it is free, for which it waits: it naps, and later asks to be woken.
     #[cold]
     #[inline(never)]
-    fn nap<R: Wait>(&self, rt: &R) -> MutexGuard<'_, Locked<K>> {
+    fn nap<R: Wait>(&self, rt: &R) -> MutexGuard<'_, InPart<K, J>> {
         // Nobody unparks this one: to park on it is to nap.
         let parker = Parker::new();
         for _ in 0..NAPS {
@@ -118,24 +98,5 @@ impl<K: Name> Kernel<K> {
             }
         }
         self.lock.lock(rt)
-    }
-
-    /// The journal, once each of its turns has ended. It is a legal one, and has as many entries of
-    /// each lane as the lane's turn has entered. No memory is taken.
-    pub fn close(self, turns: TurnList<K>) -> Journal
-        requires all { AreAllTurns K.script turns }
-        requires ended { HaveEnded K.script turns }
-        ensures script { result.script ≡ K.script }
-        ensures legal { IsLegal K.script result.entries.items }
-        ensures counts { AreCounted K.script result.entries.items turns }
-    {
-        let Kernel { cells: _, lock } = self;
-        let Locked {
-            book,
-            mut roll,
-            of: _,
-        } = lock.into_inner();
-        take_all(&mut roll, turns);
-        book.into_journal()
     }
 }

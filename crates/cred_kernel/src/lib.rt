@@ -12,6 +12,9 @@
 //! between several events may be made, one step each, but none that waits for a decision: to decide
 //! takes the turn, and sees nothing of the lock.
 //!
+//! The journal is made in parts. Between two of them the kernel is at rest: no thread shares it, and
+//! its entries can be written and let go. The next part knows which entries came before it.
+//!
 //! `Kernel::lock` may wait for the lock. `decide` waits for nobody but the caller's gate, and
 //! nothing else here waits.
 #![tactic(auto)]
@@ -20,11 +23,13 @@ pub mod cells;
 mod decision;
 mod gate;
 pub mod guard;
+mod in_part;
 pub mod kernel;
 mod locked;
 pub mod name;
 pub mod parts;
 mod passes;
+pub mod rest;
 pub mod turns;
 
 pub use cells::KernelCells;
@@ -32,6 +37,7 @@ pub use decision::decide;
 pub use gate::{Gate, NoGate, Place};
 pub use guard::KernelGuard;
 pub use kernel::Kernel;
-pub use name::Name;
+pub use name::{Name, Part};
 pub use parts::Parts;
+pub use rest::Rest;
 pub use turns::{Turn, TurnList};

@@ -1,6 +1,8 @@
 //! What stands under the lock, and the steps that are made there.
-ghost use Rattle.std.specs.Prelude.{◌≡◌, ◌<◌, ◌^◌, length, None, Some, IfOk, IfErr, OnOk, OnErr};
+ghost use Rattle.std.specs.Prelude.{◌≡◌, ◌<◌, ◌++◌, ◌^◌, true, None, Some, IfOk, IfErr, OnOk, OnErr};
+ghost use Rattle.cred_model.specs.Journal.{IsLegal};
 ghost use Rattle.cred_work.specs.DecidedWorks.{IsDecided};
+ghost use Rattle.cred_book.specs.Parts.{BeginsLegal};
 ghost use Rattle.cred_book.specs.Works.{IsWorkOf};
 ghost use Rattle.cred_book.specs.declared.step.Step.TheVariants.{More};
 ghost use Rattle.cred_kernel.specs.Advances.{Advanced, TurnHasEntered, after_finish, after_step};
@@ -11,6 +13,7 @@ use cred_book::{Book, Step, Unfinished};
 use cred_event::Entry;
 use cred_hold::Cells;
 use cred_ids::NoMemory;
+use cred_script::Script;
 use cred_turn::{LaneNumbers, Roll};
 use cred_work::Work;
 use std::marker::{Model, PhantomData};
@@ -29,12 +32,59 @@ impl<K: Name> Model for Locked<K> {
 
     ghost Value = { Contents };
 
-    ghost view = { λ s. record { journal = s.book.journal; rows = s.roll.rows } };
+    ghost view = { λ s. record {
+      journal = s.book.journal;
+      earlier = s.book.earlier;
+      rows = s.roll.rows;
+    } };
 
     ghost invariant = { λ s. IsLocked K.script K.roll K.cells K.infos s.book s.roll };
 }
 
 impl<K: Name> Locked<K> {
+    /// The script.
+    pub(crate) fn script(&self) -> &Script
+        ensures { result.now ≡ K.script }
+    {
+        self.book.script()
+    }
+
+    /// The entries of this part of the journal.
+    pub(crate) fn entries(&self) -> &[Entry]
+        ensures { self.now.journal ≡ self.now.earlier ++ result.now }
+    {
+        self.book.entries()
+    }
+
+    /// Whatever has been entered, the lanes can go on to their end.
+    #[inline(always)]
+    pub(crate) fn goes_on(&self)
+        ensures journal { BeginsLegal K.script self.now.journal }
+        ensures earlier { BeginsLegal K.script self.now.earlier }
+    {
+        let _ = self.book.entries();
+    }
+
+    /// Whether no lane has a line left: then the journal is a legal one.
+    pub(crate) fn has_ended(&self) -> bool
+        ensures { result ≡ true → IsLegal K.script self.now.journal }
+    {
+        self.book.has_ended()
+    }
+
+    /// Begins the next part of the journal.
+    pub(crate) fn begin_part(&mut self)
+        ensures { self.new ≡ record self.old { earlier = self.old.journal } }
+    {
+        self.book.begin_part();
+    }
+
+    /// Whether this part has as many entries as it should have.
+    #[inline(always)]
+    pub(crate) fn is_full(&self) -> bool {
+        self.book.is_full()
+    }
+
     /// Makes the next event of the turn's lane, or hands it out as a work where it waits for a
     /// decision. No return stands between taking the pass back and lending the row again: where
     /// memory ran out the same numbers are lent.
@@ -46,6 +96,7 @@ impl<K: Name> Locked<K> {
     pub(crate) fn step(&mut self, cells: &Cells, turn: &mut Turn<K>) -> Result<Step, NoMemory>
         requires own { cells.now ≡ K.cells }
         requires out { turn.old.numbers.out ≡ None }
+        ensures earlier { self.new.earlier ≡ self.old.earlier }
         ensures step { IfOk result (Advanced K.script K.infos K.cells turn.old turn.new) }
         ensures err { OnErr result (turn.new ≡ turn.old) }
     {
@@ -53,8 +104,6 @@ impl<K: Name> Locked<K> {
             unreachable!()
         };
         self.roll.take(pass);
-        // A lane has no more entries than the journal, for whose length there is room.
-        let _entries = count(self.book.journal());
         let step = self.book.next(cells, turn.lane);
         turn.numbers = after_step(turn.numbers, &step, self.book.ended(turn.lane));
         turn.pass = Some(self.roll.lend(turn.lane, turn.numbers));
@@ -77,6 +126,7 @@ impl<K: Name> Locked<K> {
         requires out { turn.old.numbers.out ≡ Some work.line }
         requires work { IsWorkOf K.script K.infos K.cells work }
         requires decided { IsDecided work }
+        ensures earlier { self.new.earlier ≡ self.old.earlier }
         ensures more { IfOk result (λ step. step ≡ More) }
         ensures entered { OnOk result (TurnHasEntered K.script 1 turn.old turn.new) }
         ensures err { IfErr result (λ left. (left.work ≡ work) × (turn.new ≡ turn.old)) }
@@ -85,7 +135,6 @@ impl<K: Name> Locked<K> {
             unreachable!()
         };
         self.roll.take(pass);
-        let _entries = count(self.book.journal());
         let step = self.book.finish(cells, turn.lane, work);
         turn.numbers = after_finish(turn.numbers, &step, self.book.ended(turn.lane));
         turn.pass = Some(self.roll.lend(turn.lane, turn.numbers));
@@ -130,12 +179,4 @@ fn after_finish(before: LaneNumbers, step: &Result<Step, Unfinished>, ended: u32
         },
         Err(_) => LaneNumbers { ended, ..before },
     }
-}
-
-/// How many entries there are. The number is well below the greatest of its type.
-fn count(entries: &[Entry]) -> u64
-    ensures count { result ≡ length entries.now }
-    ensures room { result < 2 ^ 63 }
-{
-    entries.len() as u64
 }

@@ -31,3 +31,17 @@ impl Name for Brand {
 
     ghost infos = { [] };
 }
+
+/// Which part of the journal it is, by the entries of the parts before it, which contracts alone
+/// see. Each part that is run picks one.
+pub trait Part {
+    ghost use Rattle.cred_event.specs.declared.entry.Entry.{Entry};
+
+    ghost earlier: { List Entry };
+}
+
+impl Part for Brand {
+    ghost use Rattle.std.specs.Prelude.{[]};
+
+    ghost earlier = { [] };
+}

@@ -25,7 +25,7 @@ pub struct Parts {
 }
 
 impl Model for Parts {
-    ghost use Rattle.std.specs.Prelude.{◌≡◌};
+    ghost use Rattle.std.specs.Prelude.{◌≡◌, []};
     ghost use Rattle.cred_book.specs.Book.{infos_in};
     ghost use Rattle.cred_kernel.specs.Locks.{IsNewKernel, KernelParts};
 
@@ -38,7 +38,9 @@ impl Model for Parts {
       infos = infos_in p.book;
     } };
 
-    ghost invariant = { λ p. IsNewKernel p.book p.roll × (p.book.words.id ≡ p.cells) };
+    ghost invariant = { λ p. IsNewKernel p.book p.roll
+        × (p.book.words.id ≡ p.cells)
+        × (p.book.earlier ≡ []) };
 }
 
 impl Parts {
@@ -64,6 +66,7 @@ fn set_up(alloc: Global, script: Script) -> Result<(Book, Cells), NoMemory>
     ensures script { IfOk result (λ made. made.0.script ≡ script) }
     ensures ready { IfOk result (λ made. IsReadyBook made.0) }
     ensures own { IfOk result (λ made. made.0.words.id ≡ made.1) }
+    ensures earlier { IfOk result (λ made. made.0.earlier ≡ []) }
 {
     let (mut book, cells) = Book::new(alloc, script)?;
     match run_setup(alloc, &mut book, &cells) {
@@ -87,6 +90,7 @@ fn run_setup(alloc: Global, book: &mut Book, cells: &Cells) -> Result<(), NoMemo
     requires empty { book.old.journal ≡ [] }
     requires home { (lane : ℕ) → out_of book.old lane ≡ None }
     ensures script { book.new.script ≡ book.old.script }
+    ensures earlier { book.new.earlier ≡ book.old.earlier }
     ensures cells { book.new.words.id ≡ book.old.words.id }
     ensures ready { OnOk result (IsReadyBook book.new) }
 {
@@ -115,6 +119,7 @@ fn decide_and_enter(
     requires stands { BookStands book.old }
     requires lanes { IsOfLane book.old lane work }
     ensures script { book.new.script ≡ book.old.script }
+    ensures earlier { book.new.earlier ≡ book.old.earlier }
     ensures cells { book.new.words.id ≡ book.old.words.id }
     ensures stands { BookStands book.new }
     ensures falls { OnOk result (steps_left book.new < steps_left book.old) }

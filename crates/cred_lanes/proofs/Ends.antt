@@ -1,31 +1,30 @@
 -- What the workers gave back, one lane after another.
 use Rattle.std.proofs.Common.{◌≡◌, ◌≢◌, ℕ, ◌+◌, ◌<◌, List, [], ◌∷◌, ◌++◌, length, get_or}
-use Rattle.std.proofs.Common.{refl, sym, ap, subst, ◌∙◌, arith, length-append, Result, Ok}
+use Rattle.std.proofs.Common.{refl, sym, ap, subst, ◌∙◌, arith, length-append, None, Result, Ok}
 use Rattle.std.specs.Prelude.{IfOk}
 use Rattle.std.proofs.lemmas.List.{get_or_at}
 use Rattle.std.proofs.Math.ListN.{get_or-append}
-use Rattle.cred_model.specs.Script.{Script}
 use Rattle.cred_turn.specs.Rows.{fresh}
-use Rattle.cred_kernel.specs.Turns.{SeenTurn, LaneHasEnded, turn_at}
-use Rattle.cred_lanes.specs.Works.{AllFinished}
+use Rattle.cred_kernel.specs.Turns.{SeenTurn, turn_at}
+use Rattle.cred_lanes.specs.Works.{AllStopped}
 use mathlib.Core.Logic.{dite}
 use native.Mathlib.Decide.{ℕ_discrete}
 
--- the first turns are those of the first lanes, which have ended
-abbrev pub EndedUpTo : Script → ℕ → List SeenTurn → Type 0
-EndedUpTo script n turns =
-    (k : ℕ) → k < n → ((turn_at turns k).lane ≡ k + 1) × LaneHasEnded script (turn_at turns k)
+-- the first turns are those of the first lanes, of which no line is being decided
+abbrev pub StoppedUpTo : ℕ → List SeenTurn → Type 0
+StoppedUpTo n turns =
+    (k : ℕ) → k < n → ((turn_at turns k).lane ≡ k + 1) × ((turn_at turns k).numbers.out ≡ None)
 
--- one more worker has ended its lane
-pub ended_more : {E : Type 0} (script : Script) (done before after : List (Result SeenTurn E))
+-- one more worker has stopped
+pub stopped_more : {E : Type 0} (done before after : List (Result SeenTurn E))
     (x : Result SeenTurn E) (turn : SeenTurn) (turns : List SeenTurn)
-    → AllFinished script done → before ++ x ∷ after ≡ done → x ≡ Ok turn
-    → length turns ≡ length before → EndedUpTo script (length before) turns
-    → EndedUpTo script (length (before ++ x ∷ [])) (turns ++ turn ∷ [])
-ended_more {E} script done before after x turn turns each split is len up k h =
+    → AllStopped done → before ++ x ∷ after ≡ done → x ≡ Ok turn
+    → length turns ≡ length before → StoppedUpTo (length before) turns
+    → StoppedUpTo (length (before ++ x ∷ [])) (turns ++ turn ∷ [])
+stopped_more {E} done before after x turn turns each split is len up k h =
     let n : ℕ = length before in
     let d : SeenTurn = record { lane = 0; numbers = fresh } in
-    let P : ℕ → SeenTurn → Type 0 = λ j t. (t.lane ≡ j + 1) × LaneHasEnded script t in
+    let P : ℕ → SeenTurn → Type 0 = λ j t. (t.lane ≡ j + 1) × (t.numbers.out ≡ None) in
     dite (ℕ_discrete k n)
     (λ (eq : k ≡ n).
     let at : get_or done n x ≡ x =

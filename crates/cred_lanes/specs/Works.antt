@@ -9,17 +9,17 @@ use Rattle.cred_book.specs.declared.step.Step.{Step}
 use Rattle.cred_book.specs.declared.step.Step.TheVariants.{More, Ended}
 use Rattle.cred_book.specs.declared.step.Step.TheVariants as step
 use Rattle.cred_kernel.specs.Deciding.{WasDecided}
-use Rattle.cred_kernel.specs.Turns.{SeenTurn, LaneHasEnded}
+use Rattle.cred_kernel.specs.Turns.{SeenTurn}
 
--- the turn of the same lane, which has ended
-abbrev pub Finished : Script → SeenTurn → SeenTurn → Type 0
-Finished script turn done = (done.lane ≡ turn.lane) × LaneHasEnded script done
+-- the turn of the same lane, and no line of it is being decided
+abbrev pub HasStopped : SeenTurn → SeenTurn → Type 0
+HasStopped turn stopped = (stopped.lane ≡ turn.lane) × (stopped.numbers.out ≡ None)
 
--- of each lane from 1 on, in order, out of memory or its turn, which has ended
-abbrev pub AllFinished : {E : Type 0} → Script → List (Result SeenTurn E) → Type 0
-AllFinished {E} script done =
-    (k : ℕ) (d : Result SeenTurn E) → k < length done
-    → IfOk (slice_index_or done k d) (λ turn. (turn.lane ≡ k + 1) × LaneHasEnded script turn)
+-- of each lane from 1 on, in order, out of memory or its turn, of which no line is being decided
+abbrev pub AllStopped : {E : Type 0} → List (Result SeenTurn E) → Type 0
+AllStopped {E} stopped =
+    (k : ℕ) (d : Result SeenTurn E) → k < length stopped
+    → IfOk (slice_index_or stopped k d) (λ turn. (turn.lane ≡ k + 1) × (turn.numbers.out ≡ None))
 
 -- What a worker comes back to the lock with, by what its last step came to: the work of its lane
 -- that is out, which is decided, or nothing where none is out.
@@ -29,10 +29,9 @@ IsReturn script infos cells turn (step.Work work) =
     (turn.numbers.out ≡ Some work.line) × WasDecided script infos cells work work
 IsReturn script infos cells turn Ended = turn.numbers.out ≡ None
 
--- How a worker leaves the lock: no work of its lane is out; or one is, and it has it; or its lane
--- has ended.
+-- How a worker leaves the lock: no work of its lane is out, or one is, and it has it.
 abbrev pub HasGoneOn : Script → List File → TableId → SeenTurn → SeenTurn → Step → Type 0
 HasGoneOn script infos cells old new More = (new.lane ≡ old.lane) × (new.numbers.out ≡ None)
 HasGoneOn script infos cells old new (step.Work work) =
     (new.lane ≡ old.lane) × (new.numbers.out ≡ Some work.line) × IsWorkOf script infos cells work
-HasGoneOn script infos cells old new Ended = (new.lane ≡ old.lane) × LaneHasEnded script new
+HasGoneOn script infos cells old new Ended = (new.lane ≡ old.lane) × (new.numbers.out ≡ None)

@@ -8,12 +8,15 @@
 //! worker gets the lock next is up to the threads, and no clause says it: in whatever order the
 //! events come, the journal is legal for the script.
 //!
-//! `drive` and `lanes` may wait for the lock, and what they promise holds if they return.
+//! The journal is made in parts. Where one has many entries the workers stop, and the caller can
+//! write them and let them go, before the lanes go on in threads of their own again.
+//!
+//! `drive` and `run_part` may wait for the lock, and what they promise holds if they return.
 #![tactic(auto)]
 
 mod run;
 mod workers;
 
 pub use cred_kernel::{Gate, NoGate, Place};
-pub use run::lanes;
+pub use run::run_part;
 pub use workers::drive;

@@ -1,6 +1,7 @@
 //! `lanes` over its input and its output. Read it as part of `cred_commands`.
 //!
-//! It reads a script, runs its lanes as threads, and writes the report of their journal.
+//! It reads a script, runs its lanes as threads, and writes the report of their journal in parts:
+//! between two of them no lane runs.
 #![tactic(auto)]
 
 mod report;

@@ -5,9 +5,8 @@ ghost use Rattle.cred_model.specs.Journal.{IsLegal};
 ghost use Rattle.cred_said.specs.Leaves.{IsReading, IsWriting, LeavesReport};
 
 use crate::report::report;
-use cred_ids::NoMemory;
 use cred_io::{Sink, Source};
-use cred_lanes::{Gate, lanes};
+use cred_lanes::Gate;
 use cred_said::{Status, read_script};
 use std::alloc::Global;
 use std::sync::Wait;
@@ -33,10 +32,7 @@ pub fn read_and_lanes<R: Threads + Wait + Sync, S: Source, K: Sink, G: Gate + Sy
         → sink.new ≡ sink.old }
 {
     match read_script(alloc, source, sink) {
-        Ok(script) => match lanes(rt, alloc, script, gate) {
-            Ok(journal) => report(alloc, sink, &journal.script, &journal.entries),
-            Err(NoMemory) => Status::Memory,
-        },
+        Ok(script) => report(rt, alloc, sink, script, gate),
         Err(status) => status,
     }
 }

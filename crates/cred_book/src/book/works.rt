@@ -46,6 +46,7 @@ impl Book {
         requires lanes { IsOfLane self.old lane work }
         requires decided { IsDecided work }
         ensures script { self.new.script ≡ self.old.script }
+        ensures earlier { self.new.earlier ≡ self.old.earlier }
         ensures cells { self.new.words.id ≡ self.old.words.id }
         ensures stands { BookStands self.new }
         ensures more { IfOk result (λ step. step ≡ More) }
@@ -211,7 +212,7 @@ impl Book {
         ensures err { IfErr result (λ unfinished. (unfinished.work ≡ work)
             × (self.new ≡ self.old)) }
     {
-        let Ok(()) = self.journal.reserve(1) else {
+        let Ok(()) = self.kept.reserve(1) else {
             return Err(Unfinished { work });
         };
         let (asked, lent) = work.apart();
@@ -220,7 +221,7 @@ impl Book {
             Ok(answer) => {
                 let line = asked.line();
                 let cursor = cursor_after(&self.script, lane, course, &answer);
-                self.journal.push_reserved(Entry {
+                self.kept.push_reserved(Entry {
                     line,
                     event,
                     answer,

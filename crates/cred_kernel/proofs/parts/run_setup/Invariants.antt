@@ -6,6 +6,7 @@ use Rattle.cred_kernel.proofs.parts.run_setup.Given as goal
 abbrev pub invariant-setup : goal.invariant-setup
 invariant-setup l = record {
   script : l.book.script ≡ l.initial.book.script;
+  earlier : l.book.earlier ≡ l.initial.book.earlier;
   cells : l.book.words.id ≡ l.initial.book.words.id;
   stands : BookStands l.book;
   home : IsHome l.book;

@@ -1,23 +1,20 @@
 use Rattle.std.proofs.Common.{sym, ◌∙◌}
-use Rattle.cred_report.specs.Text.{text}
 use Rattle.cred_said.specs.declared.status.Status.TheVariants.{Done}
 use Rattle.cred_said.proofs.Finished.{finished_counts, finished_for_text, finished_whole}
-use Rattle.cred_said.proofs.Prefixes.{done_written, prefix_either}
+use Rattle.cred_runs.proofs.Parts.{begins_either, legal_done}
 use Rattle.cred_runs.proofs.report.report.Goals as goal
 
 pub returns-clause-done : goal.returns-clause-done
-returns-clause-done g c = λ done.
-    done_written _ _ (text c.args.script.now c.args.journal.now) c.write_last.result c.write_last.ensures.ok (sym c.finish.ensures ∙ done)
+returns-clause-done g c = λ done. legal_done c.args.script _ _ c.write_lanes.result c.write_lanes.ensures.ok (sym c.finish.ensures ∙ done)
 
 pub returns-clause-prefix : goal.returns-clause-prefix
-returns-clause-prefix g c =
-    prefix_either _ _ (text c.args.script.now c.args.journal.now) c.write_last.result c.write_last.ensures.ok c.write_last.ensures.err
+returns-clause-prefix g c = begins_either c.args.script _ _ c.write_lanes.result c.write_lanes.ensures.ok c.write_lanes.ensures.err
 
 pub returns-clause-only : goal.returns-clause-only
-returns-clause-only g c = finished_for_text c.write_last.result c.finish.result c.finish.ensures
+returns-clause-only g c = finished_for_text c.write_lanes.result c.finish.result c.finish.ensures
 
 pub returns-clause-writing : goal.returns-clause-writing
 returns-clause-writing g c = record {
-  handed_on = finished_whole c.write_last.result Done c.finish.result c.write_last.ensures.handed_on c.finish.ensures;
-  cause = finished_counts c.write_last.result Done c.finish.result _ _ (λ fault. cc) c.finish.ensures c.write_last.ensures.cause;
+  handed_on = finished_whole c.write_lanes.result Done c.finish.result c.write_lanes.ensures.handed_on c.finish.ensures;
+  cause = finished_counts c.write_lanes.result Done c.finish.result _ _ (λ fault. cc) c.finish.ensures c.write_lanes.ensures.cause;
 }

@@ -1,4 +1,4 @@
-use Rattle.std.proofs.Common.{ℕ, subst}
+use Rattle.std.proofs.Common.{◌++◌, ℕ, subst}
 use Rattle.std.specs.Option.{IfSome}
 use Rattle.cred_model.specs.Script.{chain_of}
 use Rattle.cred_model.specs.Journal.{replay}
@@ -15,5 +15,5 @@ returns-clause-chain c =
     let For : Recorded → ℕ → Type 0 = λ r ns. IsChainFor r event (chain_of r.script ns) in
     subst (λ (r : Recorded). IfSome c.deciding_ns.result (For r)) c.self.view_is
     (some_each (IsNs b.state.state event) _ c.deciding_ns.result
-    (λ ns is. ns_chain b.script b.state.state (replay b.script b.journal.items) c.self.invariant.0.0 event ns is)
+    (λ ns is. ns_chain b.script b.state.state (replay b.script (b.earlier ++ b.kept.items)) c.self.invariant.0.0 event ns is)
     c.deciding_ns.ensures.ns)

@@ -19,16 +19,16 @@ use Rattle.cred_tables.specs.Out.{AreBack}
 use Rattle.cred_tables.proofs.Outs.{out_like}
 use Rattle.cred_state.specs.TokensOut.{AreTaken, IsChain, loans_of}
 use Rattle.cred_book.specs.Book.{Recorded, answer_of, infos_in}
-use Rattle.cred_book.proofs.Entered.{enters, follows_sound, out_left, replays}
+use Rattle.cred_book.proofs.Entered.{all_grown, enters, follows_sound, out_left, replays}
 use Rattle.cred_book.proofs.Finished.{left_there, lent_waits}
 use Rattle.cred_book.proofs.book.Book.enter_decided.Goals as goal
 
 pub enter-requires-clause-sound : goal.enter-requires-clause-sound
-enter-requires-clause-sound c = follows_sound c.self.inside.script c.self.inside.state.state c.self.inside.journal.items c.self.invariant.0
+enter-requires-clause-sound c = follows_sound c.self.inside.script c.self.inside.state.state (c.self.inside.earlier ++ c.self.inside.kept.items) c.self.invariant.0
 
 pub enter-requires-clause-out : goal.enter-requires-clause-out
 enter-requires-clause-out c =
-    out_like c.self.inside.state.state (replay c.self.inside.script c.self.inside.journal.items) c.self.invariant.0.0 c.self.inside.state.words.out
+    out_like c.self.inside.state.state (replay c.self.inside.script (c.self.inside.earlier ++ c.self.inside.kept.items)) c.self.invariant.0.0 c.self.inside.state.words.out
     c.self.invariant.1
 
 pub invariant_of-self-in-Ok-enter : goal.invariant_of-self-in-Ok-enter
@@ -55,14 +55,14 @@ invariant_of-self-in-Ok-enter c =
     = subst (λ (e : Event). GivesLike b.state.state (done b.script b.state.state w.line e) c.in-Ok-enter.answer c.enter.new.self.state) its
     (c.in-Ok-enter.ensures.ok b.script w.line w.chain chain right) in
     let entry : ℕ → Event → Answer → Entry = λ line event answer. record { line = line; event = event; answer = answer } in
-    let longer = c.push_reserved.ensures.items
-    ∙ ap (λ (js : List Entry). js ++ entry c.line-line.result c.event-event.result c.in-Ok-enter.answer ∷ []) c.reserve.ensures.items
-    ∙ ap (λ (n : ℕ). b.journal.items ++ entry n c.event-event.result c.in-Ok-enter.answer ∷ []) line
-    ∙ ap (λ (e : Event). b.journal.items ++ entry w.line e c.in-Ok-enter.answer ∷ []) entered in (
-      enters b.script b.state.state c.enter.new.self.state b.journal.items c.push_reserved.new.self.items
+    let longer = all_grown c.self.inside.earlier c.self.inside.kept.items c.push_reserved.new.self.items (entry c.line-line.result c.event-event.result c.in-Ok-enter.answer)
+    (c.push_reserved.ensures.items ∙ ap (λ (js : List Entry). js ++ entry c.line-line.result c.event-event.result c.in-Ok-enter.answer ∷ []) c.reserve.ensures.items)
+    ∙ ap (λ (n : ℕ). (b.earlier ++ b.kept.items) ++ entry n c.event-event.result c.in-Ok-enter.answer ∷ []) line
+    ∙ ap (λ (e : Event). (b.earlier ++ b.kept.items) ++ entry w.line e c.in-Ok-enter.answer ∷ []) entered in (
+      enters b.script b.state.state c.enter.new.self.state (b.earlier ++ b.kept.items) (c.self.inside.earlier ++ c.push_reserved.new.self.items)
           (entry w.line (work_event w.lent) c.in-Ok-enter.answer)
           c.self.invariant.0 ok longer,
-      out_left b.script b.journal.items c.push_reserved.new.self.items (entry w.line (work_event w.lent) c.in-Ok-enter.answer) b.state.words.out
+      out_left b.script (b.earlier ++ b.kept.items) (c.self.inside.earlier ++ c.push_reserved.new.self.items) (entry w.line (work_event w.lent) c.in-Ok-enter.answer) b.state.words.out
           c.enter.new.self.words.out (lent_waits w.lent)
           (left_there (loans_of w.lent) b.state.words.out c.enter.new.self.words.out taken) c.self.invariant.1 longer,
     )
@@ -93,18 +93,19 @@ returns-in-Ok-enter-clause-entered c =
     = subst (λ (e : Event). GivesLike b.state.state (done b.script b.state.state w.line e) c.in-Ok-enter.answer c.enter.new.self.state) its
     (c.in-Ok-enter.ensures.ok b.script w.line w.chain chain right) in
     let entry : ℕ → Event → Answer → Entry = λ line event answer. record { line = line; event = event; answer = answer } in
-    let longer = c.push_reserved.ensures.items
-    ∙ ap (λ (js : List Entry). js ++ entry c.line-line.result c.event-event.result c.in-Ok-enter.answer ∷ []) c.reserve.ensures.items
-    ∙ ap (λ (n : ℕ). b.journal.items ++ entry n c.event-event.result c.in-Ok-enter.answer ∷ []) line
-    ∙ ap (λ (e : Event). b.journal.items ++ entry w.line e c.in-Ok-enter.answer ∷ []) entered in
+    let longer = all_grown c.self.inside.earlier c.self.inside.kept.items c.push_reserved.new.self.items (entry c.line-line.result c.event-event.result c.in-Ok-enter.answer)
+    (c.push_reserved.ensures.items ∙ ap (λ (js : List Entry). js ++ entry c.line-line.result c.event-event.result c.in-Ok-enter.answer ∷ []) c.reserve.ensures.items)
+    ∙ ap (λ (n : ℕ). (b.earlier ++ b.kept.items) ++ entry n c.event-event.result c.in-Ok-enter.answer ∷ []) line
+    ∙ ap (λ (e : Event). (b.earlier ++ b.kept.items) ++ entry w.line e c.in-Ok-enter.answer ∷ []) entered in
     let made =
-    replays b.script b.state.state c.enter.new.self.state b.journal.items (entry w.line (work_event w.lent) c.in-Ok-enter.answer) c.self.invariant.0 ok in
-    let grown = longer ∙ ap (λ (answer : Answer). b.journal.items ++ entry w.line (work_event w.lent) answer ∷ []) (sym made.answers) in
+    replays b.script b.state.state c.enter.new.self.state (b.earlier ++ b.kept.items) (entry w.line (work_event w.lent) c.in-Ok-enter.answer) c.self.invariant.0 ok in
+    let grown = longer ∙ ap (λ (answer : Answer). (b.earlier ++ b.kept.items) ++ entry w.line (work_event w.lent) answer ∷ []) (sym made.answers) in
     rw (← c.self.view_is)
     (record {
       same = λ k. record {
         script = b.script;
         journal = grown k;
+        earlier = b.earlier;
         cursors = b.cursors;
         ended = b.ended.items;
         outs = b.outs.items;
@@ -135,10 +136,11 @@ returns-in-Ok-enter-clause-passes c =
     = subst (λ (e : Event). GivesLike b.state.state (done b.script b.state.state w.line e) c.in-Ok-enter.answer c.enter.new.self.state) its
     (c.in-Ok-enter.ensures.ok b.script w.line w.chain chain right) in
     let entry : Entry = record { line = w.line; event = (work_event w.lent); answer = c.in-Ok-enter.answer } in
-    let made = replays b.script b.state.state c.enter.new.self.state b.journal.items entry c.self.invariant.0 ok in
+    let made = replays b.script b.state.state c.enter.new.self.state (b.earlier ++ b.kept.items) entry c.self.invariant.0 ok in
     let book : Recorded = record {
       script = b.script;
-      journal = b.journal.items;
+      journal = b.earlier ++ b.kept.items;
+      earlier = b.earlier;
       cursors = b.cursors;
       ended = b.ended.items;
       outs = b.outs.items;

@@ -88,6 +88,7 @@ returns c =
     c.in_ok-cursor.ensures.passes) in
     record {
       script = m.script;
+      earlier = ap (λ (b : Recorded). b.earlier) (same ∙ ap (λ (b : Recorded). moved_on (at_home b lane) lane course.line to) c.in_ok-cursor.ensures.entered.same);
       cells = m.cells;
       stands = m.stands;
       more = refl;

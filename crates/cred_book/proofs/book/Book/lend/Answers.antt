@@ -1,4 +1,4 @@
-use Rattle.std.proofs.Common.{◌≡◌, sym, ap, ◌∙◌, subst}
+use Rattle.std.proofs.Common.{◌++◌, ◌≡◌, sym, ap, ◌∙◌, subst}
 use Rattle.cred_model.specs.State.{State}
 use Rattle.cred_model.specs.Journal.{replay}
 use Rattle.cred_model.specs.Like.{IsLike}
@@ -15,11 +15,11 @@ use Rattle.cred_book.proofs.Lent.{out_lent, words_lent}
 use Rattle.cred_book.proofs.book.Book.lend.Goals as goal
 
 pub lend-requires-clause-sound : goal.lend-requires-clause-sound
-lend-requires-clause-sound c = follows_sound c.self.inside.script c.self.inside.state.state c.self.inside.journal.items c.self.invariant.0
+lend-requires-clause-sound c = follows_sound c.self.inside.script c.self.inside.state.state (c.self.inside.earlier ++ c.self.inside.kept.items) c.self.invariant.0
 
 pub lend-requires-clause-out : goal.lend-requires-clause-out
 lend-requires-clause-out c =
-    out_like c.self.inside.state.state (replay c.self.inside.script c.self.inside.journal.items) c.self.invariant.0.0 c.self.inside.state.words.out
+    out_like c.self.inside.state.state (replay c.self.inside.script (c.self.inside.earlier ++ c.self.inside.kept.items)) c.self.invariant.0.0 c.self.inside.state.words.out
     c.self.invariant.1
 
 pub lend-requires-clause-home : goal.lend-requires-clause-home
@@ -28,10 +28,10 @@ lend-requires-clause-home c = subst (λ (r : Recorded). AreHome c.args.event.now
 pub invariant_of-self-2 : goal.invariant_of-self-2
 invariant_of-self-2 c =
     let b = c.self.inside in
-    let s : State = replay b.script b.journal.items in
+    let s : State = replay b.script (b.earlier ++ b.kept.items) in
     let lent : Lent = c.in_ok-lent.lent in
     let is : c.lend.new.self ≡ with_lent b.state lent = c.in_ok-lent.ensures.lent in
-    let sound = follows_sound b.script b.state.state b.journal.items c.self.invariant.0 in
+    let sound = follows_sound b.script b.state.state (b.earlier ++ b.kept.items) c.self.invariant.0 in
     let tokens : loans_of lent ≡ tokens_in b.state.state c.args.event.now = c.in_ok-lent.ensures.tokens in (
       (
         subst (λ (t : State). IsLike t s) (sym (ap (λ (x : Standing). x.state) is))
@@ -47,4 +47,4 @@ pub returns-clause-tokens : goal.returns-clause-tokens
 returns-clause-tokens c =
     let b = c.self.inside in
     subst (λ (r : Recorded). loans_of c.in_ok-lent.lent ≡ tokens_in (replay r.script r.journal) c.args.event.now) c.self.view_is
-    (c.in_ok-lent.ensures.tokens ∙ tokens_like b.state.state (replay b.script b.journal.items) c.self.invariant.0.0 c.args.event.now)
+    (c.in_ok-lent.ensures.tokens ∙ tokens_like b.state.state (replay b.script (b.earlier ++ b.kept.items)) c.self.invariant.0.0 c.args.event.now)

@@ -1,4 +1,4 @@
-use Rattle.std.proofs.Common.{◌≡◌, ℕ, ◌+◌, Bool, false, List, set, get_or, Option, sym, ap, ◌∙◌, arith}
+use Rattle.std.proofs.Common.{◌++◌, ◌≡◌, ℕ, ◌+◌, Bool, false, List, set, get_or, Option, sym, ap, ◌∙◌, arith}
 use Rattle.std.proofs.lemmas.List.{set-get_or}
 use Rattle.cred_model.specs.Course.{Course}
 use Rattle.cred_book.specs.Book.{Recorded}
@@ -20,7 +20,8 @@ returns-else-has_ended c =
     = λ cursors ended.
     record {
       script = b.script;
-      journal = b.journal.items;
+      journal = b.earlier ++ b.kept.items;
+      earlier = b.earlier;
       cursors = cursors;
       ended = ended;
       outs = b.outs.items;

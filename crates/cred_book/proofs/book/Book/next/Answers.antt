@@ -32,6 +32,7 @@ returns-in_default c =
     = due_found _ book c.args.lane _ _ c.self.view_is c.due.ensures c.in_default.is in
     record {
       script = refl;
+      earlier = refl;
       cells = refl;
       stands = c.requires.stands;
       made = none_made book c.args.lane c.requires.stands none;
@@ -101,6 +102,7 @@ returns-in-Some-3 c =
     let r : HandsOut book after lane work = subst (λ b. HandsOut book b lane work) (sym goes.lent) h in
     record {
       script = ap (λ (b : Recorded). b.script) goes.lent;
+      earlier = ap (λ (b : Recorded). b.earlier) goes.lent;
       cells = ap (λ (b : Recorded). b.words.id) goes.lent;
       stands = r.stands;
       made = r.made;
@@ -218,6 +220,7 @@ returns c =
     let m : EntersMore book after lane = subst (λ b. EntersMore book b lane) same e in
     record {
       script = m.script;
+      earlier = ap (λ (b : Recorded). b.earlier) (sym same);
       cells = ap (λ (w : Words). w.id) m.words;
       stands = m.stands;
       made = m.made;

@@ -49,3 +49,7 @@ returns-clause-ok c =
     ∙ ap (λ (call : IdCall). broadcasts ++ broadcast call (in_order tasks) ∷ []) c.in_ok-call.ensures.equal
     ∙ sym (ap (λ (b : Bool). broadcasts ++ cond b (broadcast c.args.call.now (in_order tasks) ∷ []) [])
     (open_in_order tasks false (sym c.is_empty.ensures ∙ c.if-is_empty.false))))
+
+-- nothing is kept of another broadcast's steps
+pub invariant_of-push : goal.invariant_of-push
+invariant_of-push c = tt

@@ -22,9 +22,7 @@ after_step-turn-inside-requires g c =
     let was = its_numbers book c.self.inside.roll.rows g.K.Name.roll lane c.turn.inside.numbers c.in-Some.pass c.self.invariant.lent back
     c.take-2.ensures.lane c.take-2.ensures.was in
     let few = entered_few book lane c.turn.inside.numbers was in
-    let all : c.count-entries.result ≡ length book.journal = c.count-entries.ensures.count ∙ ap length c.journal.ensures in
-    let room : c.count-entries.result < 2 ^ 63 = c.count-entries.ensures.room in
-    omega (arith, few, all, room)
+    omega (arith, few, c.self.invariant.stands.most)
 
 pub invariant_of-self : goal.invariant_of-self
 invariant_of-self g c =

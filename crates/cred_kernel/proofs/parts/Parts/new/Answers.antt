@@ -13,6 +13,7 @@ invariant_of-result c = (
         (c.lanes.ensures.greatest ∙ ap (λ (s : Script). lanes s.lines) c.script.ensures);
   },
   c.in_ok-book.ensures.own,
+  c.in_ok-book.ensures.earlier,
 )
 
 pub returns : goal.returns

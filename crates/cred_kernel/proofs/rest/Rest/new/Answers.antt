@@ -1,6 +1,6 @@
 use Rattle.std.proofs.Common.{ap, ◌∙◌}
 use Rattle.cred_kernel.specs.Locks.{KernelParts}
-use Rattle.cred_kernel.proofs.kernel.Kernel.new.Goals as goal
+use Rattle.cred_kernel.proofs.rest.Rest.new.Goals as goal
 
 pub invariant_of-locked : goal.invariant_of-locked
 invariant_of-locked g c = record {
@@ -13,5 +13,5 @@ invariant_of-locked g c = record {
   lent = c.in-Ok.ensures.rows;
 }
 
-pub returns : goal.returns
-returns g c = c.in-Ok.ensures.turns
+pub returns-clause-fresh : goal.returns-clause-fresh
+returns-clause-fresh g c = c.in-Ok.ensures.turns

@@ -1,8 +1,8 @@
 use Rattle.std.proofs.Common.{◌≡◌, ◌∷◌, ◌++◌, [], length, ap, ◌∙◌, arith}
 use Rattle.std.proofs.Common.{append_assoc, length-append, Ok}
 use Rattle.std.specs.Vec.Iter.{into_iter_items}
-use Rattle.cred_lanes.proofs.Ends.{ended_more}
-use Rattle.cred_lanes.proofs.workers.all_ended.Goals as goal
+use Rattle.cred_lanes.proofs.Ends.{stopped_more}
+use Rattle.cred_lanes.proofs.workers.all_turns.Goals as goal
 
 pub loop-turn-preserved : goal.loop-turn-preserved
 loop-turn-preserved g c =
@@ -13,7 +13,7 @@ loop-turn-preserved g c =
     let steps : into_iter_items at.turn-iterator ≡ x ∷ rest = c.in-Some.ensures.steps.0 in
     let left : at.yielded ++ x ∷ rest ≡ into_iter_items c.into_iter-turn-iterator.result =
     rw (← steps) at.invariant.left in
-    let gives : into_iter_items c.into_iter-turn-iterator.result ≡ c.args.done.items =
+    let gives : into_iter_items c.into_iter-turn-iterator.result ≡ c.args.stopped.items =
     c.into_iter-turn-iterator.ensures.into_iter_gives.0 in
     let is : x ≡ Ok t = c.in_ok-turn.was in
     record {
@@ -25,7 +25,7 @@ loop-turn-preserved g c =
         length-append at.yielded (x ∷ []),
         at.invariant.count,
       );
-      ended = rw c.in_ok-push.ensures.items
-          (ended_more g.K.Name.script c.args.done.items at.yielded rest x t at.turns.items
-          c.requires.each (left ∙ gives) is at.invariant.count at.invariant.ended);
+      home = rw c.in_ok-push.ensures.items
+          (stopped_more c.args.stopped.items at.yielded rest x t at.turns.items
+          c.requires.each (left ∙ gives) is at.invariant.count at.invariant.home);
     }
