@@ -1,17 +1,19 @@
 //! What a change makes of a credential.
-ghost use Rattle.std.specs.Prelude.{◌≡◌, IfOk};
+ghost use Rattle.std.specs.Prelude.{◌≡◌, IfOk, OnErr, true};
 ghost use Rattle.std.specs.Option.{option_map};
 ghost use Rattle.cred_model.specs.Change as spec;
 ghost use Rattle.cred_model.specs.LabelEvents.{committed_by};
 ghost use Rattle.cred_rules.specs.Exec.{exec};
+ghost use Rattle.cred_decide.specs.Memory.{makes_credential};
 
+use crate::refusals::refusal_answer;
 use cred_access::access_cred;
 use cred_adjust::apply;
 use cred_caps::CapSet;
 use cred_event::{Answer, Change};
 use cred_exec::{ExecRefusal, exec};
 use cred_ids::{Id, NoMemory};
-use cred_record::{Cred, FileInfo, Gains, Refusal};
+use cred_record::{Cred, FileInfo, Gains};
 use cred_setid::setfs;
 use std::marker::Model;
 
@@ -81,15 +83,17 @@ fn made_by_execve(
 ///
 /// # Errors
 ///
-/// `NoMemory` where the credential could not be copied.
+/// `NoMemory` where the credential could not be copied, which an execve of no file doesn't ask for.
 pub fn change(
     cred: &Cred,
     file: Option<&FileInfo>,
     chain: &[Id],
     change: &Change,
 ) -> Result<Result<Made, Answer>, NoMemory>
-    ensures { IfOk result (λ made. made
+    ensures made { IfOk result (λ made. made
         ≡ spec.by_change (option_map (λ file. file.now) file.entry) chain.now cred.now change.now) }
+    ensures memory { OnErr result
+        (makes_credential (option_map (λ file. file.now) file.entry) change.now ≡ true) }
 {
     match change {
         Change::SetFs(kind, arg) => {
@@ -98,9 +102,7 @@ pub fn change(
         }
         Change::Adjust(call) => match apply(cred, call) {
             Ok(new) => Ok(Ok(without_gains(Answer::Done, new))),
-            Err(Refusal::Perm) => Ok(Err(Answer::Eperm)),
-            Err(Refusal::Invalid) => Ok(Err(Answer::Einval)),
-            Err(Refusal::Memory) => Err(NoMemory),
+            Err(refusal) => Ok(Err(refusal_answer(refusal)?)),
         },
         Change::Exec { .. } => match file {
             Some(file) => made_by_execve(cred, file, chain),

@@ -4,7 +4,9 @@
 #![tactic(auto)]
 
 mod changes;
+mod refusals;
 mod replies;
 
 pub use changes::{Made, change, committed_by};
+pub use refusals::refusal_answer;
 pub use replies::reply;

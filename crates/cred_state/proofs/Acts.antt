@@ -29,7 +29,9 @@ use Rattle.cred_model.proofs.Numbers.{owner_number}
 use Rattle.cred_sound.specs.Broadcasts.{IsThread, IsUnderWay}
 use Rattle.cred_sound.specs.Sound.{IsSound}
 use Rattle.cred_sound.proofs.Threads.{thread_is, waits_at}
+use Rattle.cred_cast.specs.Broadcasts.{MakesOf}
 use Rattle.cred_cast.proofs.Conditions.{least_waits}
+use Rattle.cred_hold.specs.Tokens.{Mastered}
 use Rattle.cred_slots.specs.Table.{Table, IsSameBag}
 use Rattle.cred_slots.specs.Table as table
 use Rattle.cred_tables.specs.Begin.{table_at}
@@ -39,9 +41,10 @@ use Rattle.cred_state.proofs.Broadcasts.{kept_beside}
 use Rattle.cred_tables.proofs.Ending.{DropsAll, drops_all, ended_kept, ended_is}
 use Rattle.cred_tables.proofs.Filled.{filled_same, no_more_swept}
 use Rattle.cred_tables.proofs.InUse.{Differ}
+use Rattle.cred_tables.proofs.Puts as puts
 use Rattle.cred_model.proofs.Places.{if_some}
 use Rattle.cred_tables.proofs.Sealing.{Drops, roomy, in_free_or, in_none_or}
-use Rattle.cred_setid.specs.Parts.{PartsBecome}
+use Rattle.cred_setid.specs.Parts.{PartsBecome, changed, parts_of}
 use Rattle.cred_setid.specs.declared.parts.IdParts.{IdParts}
 
 -- ---- what was found
@@ -169,6 +172,39 @@ module _ (s : State) (number task : ℕ) (next : IsNext s number task) where
         (act_does task next.owner.process old.number new next.broadcast (differs old.cred new))
     unfolding act_does
     act_tests new rule = rw (next.found, next.least, next.lives, own_of (Some old) has, rule) refl
+
+-- ---- a step that is kept
+
+-- the slot that was put has what was put
+pub slot_made : (before : Mastered) {after : Mastered} (slot : ℕ) (new : Credential) → after ≡ record before { slots = slice_set before.slots slot (Some new) }
+    → length before.slots ≡ SLOTS
+    → slot < SLOTS
+    → slice_get after.slots slot ≡ Some (Some new)
+slot_made before slot new made long small =
+    ap (λ (m : Mastered). slice_get m.slots slot) made ∙ puts.set_there before.slots slot (Some new) (omega (arith, long, small))
+
+pub there_once : {o : Option (Option Credential)} {c d : Credential} → o ≡ Some (Some d) → o ≡ Some (Some c) → d ≡ c
+there_once {c = c} {d = d} one other = let both : Some (Some d) ≡ Some (Some c) = sym one ∙ other in cc
+
+-- what the call makes of the thread's credential it makes of the words that are kept
+pub kept_so : (before : Option Credential) (own new made : Credential) (found : Option Broadcast) (broadcast : Broadcast) (ids_changed : Bool)
+    → found ≡ Some broadcast
+    → IfSome before (λ head. head ≡ own)
+    → IfSome found (λ b. MakesOf b.call own new ids_changed)
+    → made ≡ new
+    → IfSome before (λ head. IsSomeAnd found (λ b. MakesOf b.call head made ids_changed))
+kept_so None own new made found broadcast ids_changed is head makes same = tt
+kept_so (Some h) own new made found broadcast ids_changed is head makes same =
+    rw is (rw (head, same) (if_some (λ (b : Broadcast). MakesOf b.call own new ids_changed) found broadcast is makes))
+
+-- what the parts become is what the call makes
+pub makes_so : (found : Option Broadcast) (own : Credential) (old parts : IdParts) (groups : Option (List ℕ)) (ids_changed : Bool)
+    → IfSome found (λ b. (c : Credential) → parts_of c ≡ old → PartsBecome c old parts (Ok groups) (set_id c b.call))
+    → parts_of own ≡ old
+    → ids_changed ≡ differs own (changed own parts groups)
+    → IfSome found (λ b. MakesOf b.call own (changed own parts groups) ids_changed)
+makes_so None own old parts groups ids_changed becomes same differs_so = tt
+makes_so (Some b) own old parts groups ids_changed becomes same differs_so = record { made = becomes own same; differs_so = differs_so }
 
 -- ---- a process that ends
 

@@ -1,15 +1,20 @@
 -- A task makes an id call, and the other threads of its process wait.
-use Rattle.std.proofs.Common.{◌≡◌, ◌≢◌, ◌==◌, ℕ, Bool, true, filter, find, is_some, List, [], ◌∷◌, ◌++◌, length, slice_set, Option, None, Some, Ok, Err, refl}
-use Rattle.std.proofs.Common.{sym, ap, ◌∙◌, subst, arith}
+use Rattle.std.proofs.Common.{◌≡◌, ◌≢◌, ◌==◌, ℕ, Bool, true, filter, find, is_some, List, [], ◌∷◌, ◌++◌, length, slice_set, Option, None, Some, Result}
+use Rattle.std.proofs.Common.{Ok, Err, refl, sym, ap, ◌∙◌, subst, arith}
 use Rattle.std.specs.List.{All, AllPairs}
 use Rattle.std.specs.Option.{option_and_then}
+use Rattle.std.specs.Result.{IfOk}
+use Rattle.std.proofs.lemmas.Result.{IfOk-weaker}
 use Rattle.std.proofs.lemmas.List.Elements.{All-map}
 use Rattle.std.proofs.lemmas.List.Kept.{AllPairs-filter}
 use Rattle.cred_ids.specs.Limits.{SLOTS}
 use Rattle.cred_record.specs.Credential.{Credential}
 use Rattle.cred_record.specs.declared.id_call.IdCall.{IdCall}
 use Rattle.cred_record.specs.declared.refusal.Denial.{Denial}
+use Rattle.cred_record.specs.declared.refusal.Refusal.{Refusal}
 use Rattle.cred_rules.specs.SetId.{set_id}
+use Rattle.cred_setid.specs.declared.parts.IdParts.{IdParts}
+use Rattle.cred_setid.specs.Parts.{PartsBecome}
 use Rattle.cred_event.specs.declared.answer.Answer.{Answer}
 use Rattle.cred_event.specs.declared.answer.Answer.TheVariants.{Began, Busy, Exists, NoTask, Overridden, TableFull}
 use Rattle.cred_event.specs.declared.answer.Named.TheVariants as named
@@ -29,6 +34,7 @@ use Rattle.cred_model.proofs.Likes.{does_same}
 use Rattle.cred_sound.specs.Broadcasts.{IsThread}
 use Rattle.cred_sound.specs.Sound.{IsSound}
 use Rattle.cred_sound.proofs.Threads.{beside_is, finds_itself, is_thread}
+use Rattle.cred_decide.specs.Refusals.{IsDenied}
 use Rattle.cred_cast.proofs.Conditions.{idle_waits_nowhere}
 use Rattle.cred_procs.specs.Tasks.{those}
 use Rattle.cred_slots.specs.Table.{Table, IsSameBag, IsOnlyUser}
@@ -38,6 +44,7 @@ use Rattle.cred_tables.specs.Kept.{Parts, state_of, IsKept, Seals}
 use Rattle.cred_tables.proofs.Filled.{filled_put, no_more_dropped, no_more_sealed}
 use Rattle.cred_tables.proofs.Bags.{bag-other}
 use Rattle.cred_state.proofs.Broadcasts.{kept_beside, like_beside}
+use Rattle.cred_state.proofs.Refused.{parts_denied}
 use Rattle.cred_tables.proofs.Owners.{own_none}
 use Rattle.cred_tables.proofs.Sealing.{roomy, in_free, in_none, keeps_same, Drops, alone_later}
 use Rattle.cred_tables.proofs.InUse.{Differ, in_use-updated}
@@ -92,8 +99,17 @@ module _ (s : State) (line task : ℕ) (call : IdCall) (old : Numbered) (may : M
   own_number : numbered s.creds may.owner.current ≡ Some old
   own_number = sym (ap (option_and_then (λ (t : Task). numbered s.creds t.current)) may.lives) ∙ may.has
 
-  pub begin_refused : (denial : Denial) → set_id old.cred call ≡ Err denial → outcome s (by_begin s line task call) ≡ (refusal denial, s)
-  begin_refused denial rule = rw (may.lives, own_number, may.idle, may.new, may.own, rule) refl
+  begin_denied : (denial : Denial) → set_id old.cred call ≡ Err denial → outcome s (by_begin s line task call) ≡ (refusal denial, s)
+  begin_denied denial rule = rw (may.lives, own_number, may.idle, may.new, may.own, rule) refl
+
+  pub begin_refused : {E : Type 0} (answered : Result Answer E) (why : Refusal) (own new : IdParts)
+      → PartsBecome old.cred own new (Err why) (set_id old.cred call) → IfOk answered (IsDenied why)
+      → IfOk answered (λ answer. IsOutcomeLike (outcome s (by_begin s line task call)) answer s)
+  begin_refused answered why own new becomes denied =
+      IfOk-weaker answered (IsDenied why) (λ answer. IsOutcomeLike (outcome s (by_begin s line task call)) answer s)
+      (λ answer is. does_same _ _ _
+      (begin_denied is.denial (parts_denied (set_id old.cred call) old.cred own new why answer is becomes)
+      ∙ ap (λ (a : Answer). (a, s)) (sym is.answers))) denied
 
   begin_tests : (new : Credential) → set_id old.cred call ≡ Ok new
       → outcome s (by_begin s line task call)

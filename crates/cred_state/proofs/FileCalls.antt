@@ -1,16 +1,22 @@
 -- A file is changed by what a label holds.
 use Rattle.std.proofs.Common.{◌≡◌, ℕ, List, Option, None, Some, Result, Ok, Err, inl, inr, slice_get, slice_set, refl, ap, ◌∙◌}
 use Rattle.std.specs.Option.{option_map}
+use Rattle.std.specs.Result.{IfOk}
+use Rattle.std.proofs.lemmas.Result.{IfOk-weaker}
 use Rattle.cred_record.specs.Answer.{AnswersBy}
 use Rattle.cred_record.specs.Credential.{Credential}
 use Rattle.cred_record.specs.File.{File}
 use Rattle.cred_record.specs.declared.refusal.Denial.{Denial}
 use Rattle.cred_record.specs.declared.refusal.Refusal.{Refusal}
 use Rattle.cred_attr.specs.Exactly.{AnswersExactly}
+use Rattle.cred_event.specs.declared.answer.Answer.{Answer}
 use Rattle.cred_event.specs.declared.answer.Answer.TheVariants.{Done}
+use Rattle.cred_model.specs.Change.{by_rule}
 use Rattle.cred_model.specs.State.{State, Numbered, held_by}
 use Rattle.cred_model.specs.FileEvents.{by_file}
 use Rattle.cred_model.specs.Step.{outcome}
+use Rattle.cred_decide.specs.Refusals.{IsDenied}
+use Rattle.cred_decide.proofs.Denied.{denied}
 use Rattle.cred_slots.specs.Table.{Table}
 use Rattle.cred_tables.specs.Kept.{Parts, IsKept}
 
@@ -55,3 +61,20 @@ file_changed s hold place rule c file holds there new is =
     let held = held_cred (held_by s hold) c holds in
     let made : rule held.0.cred file ≡ Ok new = ap (λ (x : Credential). rule x file) held.2 ∙ is in
     rw (held.1, there, made) refl
+
+-- the rule denies it
+pub file_refused : (s : State) (hold place : ℕ) (rule : Credential → File → Result File Denial)
+    (c : Credential) (file : File)
+    → option_map (λ held. held.cred) (held_by s hold) ≡ Some c
+    → slice_get s.infos place ≡ Some file
+    → {E : Type 0} (answered : Result Answer E) (why : Refusal) → AnswersBy (Err why) (rule c file)
+    → IfOk answered (IsDenied why)
+    → IfOk answered (λ answer. outcome s (by_file s hold place rule) ≡ (answer, s))
+file_refused s hold place rule c file holds there answered why by so =
+    let held = held_cred (held_by s hold) c holds in
+    IfOk-weaker answered (IsDenied why)
+    (λ answer. outcome s (by_file s hold place rule) ≡ (answer, s))
+    (λ answer is.
+    let ruled : by_rule (rule held.0.cred file) ≡ Err answer
+    = ap (λ (x : Credential). by_rule (rule x file)) held.2 ∙ denied (rule c file) why answer is by in
+    rw (held.1, there, ruled) refl) so

@@ -8,6 +8,8 @@ pub mod Raw
 pub mod Acts
 pub mod Reserved
 pub mod Reading
+pub mod Refused
+pub mod Replacing
 pub mod Standing
 pub mod Holding
 pub mod Opening
@@ -26,3 +28,4 @@ pub mod LentForEvent
 pub mod Asking
 pub mod Deciding
 pub mod Traces
+pub mod Seen

@@ -1,11 +1,16 @@
 -- A task makes an id call for itself alone.
-use Rattle.std.proofs.Common.{◌≡◌, ℕ, Bool, List, length, slice_set, Option, None, Some, Ok, Err, refl, sym, ap, ◌∙◌}
+use Rattle.std.proofs.Common.{◌≡◌, ℕ, Bool, List, length, slice_set, Option, None, Some, Result, Ok, Err, refl, sym, ap, ◌∙◌}
 use Rattle.std.specs.Option.{option_and_then}
+use Rattle.std.specs.Result.{IfOk}
+use Rattle.std.proofs.lemmas.Result.{IfOk-weaker}
 use Rattle.cred_ids.specs.Limits.{SLOTS}
 use Rattle.cred_record.specs.Credential.{Credential}
 use Rattle.cred_record.specs.declared.id_call.IdCall.{IdCall}
 use Rattle.cred_record.specs.declared.refusal.Denial.{Denial}
+use Rattle.cred_record.specs.declared.refusal.Refusal.{Refusal}
 use Rattle.cred_rules.specs.SetId.{set_id}
+use Rattle.cred_setid.specs.declared.parts.IdParts.{IdParts}
+use Rattle.cred_setid.specs.Parts.{PartsBecome}
 use Rattle.cred_event.specs.declared.answer.Answer.{Answer}
 use Rattle.cred_event.specs.declared.answer.Answer.TheVariants.{Busy, NoTask, Overridden, Sealed, TableFull}
 use Rattle.cred_model.specs.Answers.{refusal}
@@ -17,6 +22,7 @@ use Rattle.cred_model.specs.State.{State, Task, Numbered, numbered, task_of, cur
 use Rattle.cred_model.specs.CallEvents.{by_raw}
 use Rattle.cred_model.specs.Step.{outcome}
 use Rattle.cred_model.proofs.Likes.{does_same}
+use Rattle.cred_decide.specs.Refusals.{IsDenied}
 use Rattle.cred_slots.specs.Table.{Table}
 use Rattle.cred_slots.specs.Table as table
 use Rattle.cred_tables.specs.Kept.{Parts, state_of, IsKept, Seals}
@@ -25,6 +31,7 @@ use Rattle.cred_tables.proofs.Owners.{own_none}
 use Rattle.cred_tables.proofs.Sealing.{roomy, in_free, in_none, Drops}
 use Rattle.cred_state.specs.Refusals.{MayCallAlone}
 use Rattle.cred_state.proofs.Begins.{counts_next, replaced_made}
+use Rattle.cred_state.proofs.Refused.{parts_denied}
 
 raw_does : (task process old : ℕ) (new : Credential) (other : Bool) → State → ℕ → Answer × State
 raw_does task process old new other s slot = (
@@ -38,9 +45,18 @@ module _ (s : State) (task : ℕ) (call : IdCall) (old : Numbered) (may : MayCal
   own_number : numbered s.creds may.owner.current ≡ Some old
   own_number = sym (ap (option_and_then (λ (t : Task). numbered s.creds t.current)) may.lives) ∙ may.has
 
-  pub raw_refused : (denial : Denial) → set_id old.cred call ≡ Err denial
+  raw_denied : (denial : Denial) → set_id old.cred call ≡ Err denial
       → outcome s (by_raw s task call) ≡ (refusal denial, s)
-  raw_refused denial rule = rw (may.lives, own_number, may.idle, may.own, rule) refl
+  raw_denied denial rule = rw (may.lives, own_number, may.idle, may.own, rule) refl
+
+  pub raw_refused : {E : Type 0} (answered : Result Answer E) (why : Refusal) (own new : IdParts)
+      → PartsBecome old.cred own new (Err why) (set_id old.cred call) → IfOk answered (IsDenied why)
+      → IfOk answered (λ answer. IsOutcomeLike (outcome s (by_raw s task call)) answer s)
+  raw_refused answered why own new becomes denied =
+      IfOk-weaker answered (IsDenied why) (λ answer. IsOutcomeLike (outcome s (by_raw s task call)) answer s)
+      (λ answer is. does_same _ _ _
+      (raw_denied is.denial (parts_denied (set_id old.cred call) old.cred own new why answer is becomes)
+      ∙ ap (λ (a : Answer). (a, s)) (sym is.answers))) denied
 
   raw_tests : (new : Credential) → set_id old.cred call ≡ Ok new
       → outcome s (by_raw s task call)

@@ -1,3 +1,4 @@
 pub mod Flags
 pub mod TokensOut
 pub mod Refusals
+pub mod Replacements

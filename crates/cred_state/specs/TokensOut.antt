@@ -146,3 +146,15 @@ pub record MayOpen (s : State) (label fd opener : ℕ) (may : Bool) : Type 0 whe
   pub new : open_of s fd ≡ None
   pub room : length s.files < OPEN_FILES
   pub allowed : may ≡ true
+
+-- nothing refuses to open a file by what the label holds, as it was decided
+abbrev pub CanOpen : State → (label fd : ℕ) → Bool → Type 0
+CanOpen s label fd may = (opener : ℕ) × MayOpen s label fd opener may
+
+-- why what was lent for an event stays lent: nothing was decided for it, or it opens a file, which
+-- takes memory and which nothing refuses
+abbrev pub StaysLent : State → Lent → Type 0
+StaysLent s (Asking hold query told) = told ≡ None
+StaysLent s (Opening hold file want fd may) = IfSome may (CanOpen s hold.label fd)
+StaysLent s (Signalling from hold to target may) = may ≡ None
+StaysLent s (Altering base writer change made) = made ≡ None

@@ -15,6 +15,7 @@ ghost use Rattle.cred_sound.specs.Sound.{IsSound};
 ghost use Rattle.cred_tables.specs.Kept.{cred_under, seen_in, AreInPlace, IsInUse};
 ghost use Rattle.cred_tables.specs.Out.{AreHome, AreOut};
 
+mod acts;
 mod broadcasts;
 mod decides;
 mod enters;
@@ -25,6 +26,7 @@ mod lends;
 mod overrides;
 mod prepare;
 mod raw;
+mod replaces;
 mod returns;
 mod tasks;
 mod traces;

@@ -23,12 +23,7 @@ impl State {
     /// # Errors
     ///
     /// `NoMemory` if an allocation of groups or of a credential fails: the state is as it was.
-    pub(crate) fn ask(
-        &mut self,
-        cells: &Cells,
-        label: u32,
-        query: Query,
-    ) -> Result<Answer, NoMemory>
+    pub fn ask(&mut self, cells: &Cells, label: u32, query: Query) -> Result<Answer, NoMemory>
         requires own { self.old.words.id ≡ cells.now }
         requires out { AreOut self.old.state self.old.words.out }
         requires home { AreHome (Event.Ask label query) self.old.words.out }
@@ -131,7 +126,7 @@ impl State {
     /// # Errors
     ///
     /// `NoMemory` if an allocation of a credential fails: the state is as it was.
-    pub(crate) fn alter(
+    pub fn alter(
         &mut self,
         cells: &Cells,
         script: &Script,

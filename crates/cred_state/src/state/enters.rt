@@ -22,7 +22,7 @@ ghost use Rattle.cred_hold.specs.Tokens.{loan};
 ghost use Rattle.cred_work.specs.Decisions.{work_event, AreOf, IsPut, IsRight};
 ghost use Rattle.cred_tables.specs.Out.{AreBack, AreOut};
 ghost use Rattle.cred_state.specs.TokensOut.{loans_of, hold_loan, HoldsApart, AreTaken, IsChain};
-ghost use Rattle.cred_state.specs.TokensOut.{IsBase, IsMadeOf, IsMadePut};
+ghost use Rattle.cred_state.specs.TokensOut.{IsBase, IsMadeOf, IsMadePut, CanOpen, StaysLent};
 
 use crate::state::State;
 use cred_decide::Made;
@@ -39,7 +39,7 @@ impl State {
     /// # Errors
     ///
     /// What was lent, which still is, where nothing was decided, or where there is no memory for a
-    /// file that is opened. The state is as it was.
+    /// file that is opened, which nothing refuses. The state is as it was.
     // Inlined: a call would move what it takes or gives, which is large.
     #[inline(always)]
     pub fn enter(&mut self, cells: &Cells, lent: Lent) -> Result<Answer, Lent>
@@ -57,6 +57,7 @@ impl State {
         ensures taken { OnOk result
             (AreTaken (loans_of lent) self.old.words.out self.new.words.out) }
         ensures err { IfErr result (λ left. (self.new ≡ self.old) × (left ≡ lent)) }
+        ensures stays { OnErr result (StaysLent self.old.state lent) }
     {
         match lent {
             Lent::Asking { hold, query, told } => match told {
@@ -213,7 +214,7 @@ impl State {
     /// # Errors
     ///
     /// The hold, which is still lent, where nothing was decided, or where there is no memory for
-    /// the file. The state is as it was.
+    /// the file, which nothing refuses. The state is as it was.
     fn enter_open(
         &mut self,
         cells: &Cells,
@@ -234,6 +235,7 @@ impl State {
             self.new.words.out) }
         ensures id { self.new.words.id ≡ self.old.words.id }
         ensures err { IfErr result (λ left. (self.new ≡ self.old) × (left ≡ hold)) }
+        ensures stays { OnErr result (IfSome may (CanOpen self.old.state hold.label fd)) }
     {
         let Some(may) = may else {
             return Err(hold);
@@ -300,8 +302,8 @@ impl State {
     ///
     /// # Errors
     ///
-    /// `NoMemory` if an allocation of room for the file or for its reference fails: the state is as
-    /// it was.
+    /// `NoMemory` if an allocation of room for the file or for its reference fails, where nothing
+    /// refuses to open it: the state is as it was.
     pub(crate) fn open_as(
         &mut self,
         label: u32,
@@ -318,6 +320,7 @@ impl State {
         ensures kept { kept self.new.state ≡ kept self.old.state }
         ensures words { (self.new.words ≡ self.old.words) × (self.new.places ≡ self.old.places) }
         ensures err { OnErr result (self.new ≡ self.old) }
+        ensures memory { OnErr result (CanOpen self.old.state label fd may) }
     {
         let opener = match self.may_open(label, fd, may) {
             Ok(opener) => opener,

@@ -12,6 +12,7 @@ ghost use Rattle.cred_model.specs.FileEvents.{by_file, by_stat};
 
 use crate::state::State;
 use cred_attr::{chmod, chown, set_attr};
+use cred_decide::refusal_answer;
 use cred_event::{Answer, Told};
 use cred_hold::Cells;
 use cred_ids::{Arg, NoMemory};
@@ -180,9 +181,7 @@ impl State {
                 self.infos.replace(place, file);
                 Ok(Answer::Done)
             }
-            Err(Refusal::Perm) => Ok(Answer::Eperm),
-            Err(Refusal::Invalid) => Ok(Answer::Einval),
-            Err(Refusal::Memory) => Err(NoMemory),
+            Err(refusal) => refusal_answer(refusal),
         }
     }
 }

@@ -19,7 +19,7 @@ impl State {
     /// `NoMemory` if an allocation of room for the hold or for its reference fails: the state is as
     /// it was.
     #[inline(never)]
-    pub(super) fn take(&mut self, label: u32, task: u32, side: Side) -> Result<Answer, NoMemory>
+    pub fn take(&mut self, label: u32, task: u32, side: Side) -> Result<Answer, NoMemory>
         ensures ok { IfOk result (λ answer.
             Gives self.old.state (by_take self.old.state label task side) answer self.new.state) }
         ensures err { OnErr result (self.new ≡ self.old) }
@@ -67,7 +67,7 @@ impl State {
 
     /// The label drops what it holds. `NoHold` leaves the state.
     #[inline(never)]
-    pub(super) fn release(&mut self, label: u32) -> Answer
+    pub fn release(&mut self, label: u32) -> Answer
         ensures made { Gives self.old.state (by_release self.old.state label) result
             self.new.state }
         ensures words { self.new.words ≡ self.old.words }

@@ -14,13 +14,15 @@ ghost use Rattle.cred_tables.specs.Out.{AreOut};
 ghost use Rattle.cred_state.specs.Refusals.{MayCallAlone};
 
 use crate::state::State;
+use crate::state::replaces::replace_in;
+use cred_decide::refusal_answer;
 use cred_event::Answer;
 use cred_hold::Cells;
 use cred_ids::{Groups, NoMemory};
 use cred_ptrace::differs_by;
-use cred_record::{IdCall, Refusal};
+use cred_record::IdCall;
 use cred_setid::{IdParts, apply_parts};
-use cred_tables::{Numbered, renew_in, seal_next};
+use cred_tables::Numbered;
 
 impl State {
     /// A task makes an id call for itself alone: nobody waits, and no other thread of its process
@@ -58,9 +60,7 @@ impl State {
                 let other = differs_by(&old.uid, &old.gid, &parts.uid, &parts.gid);
                 self.raw_with(cells, task, now, &parts, &groups, other)
             }
-            Err(Refusal::Perm) => Ok(Answer::Eperm),
-            Err(Refusal::Invalid) => Ok(Answer::Einval),
-            Err(Refusal::Memory) => Err(NoMemory),
+            Err(refusal) => refusal_answer(refusal),
         }
     }
 
@@ -97,12 +97,20 @@ impl State {
             self.slots.sweep();
             return Ok(Answer::TableFull);
         };
-        renew_in(&self.tasks, &mut self.dump, task, other);
-        let number = seal_next(&mut self.slots, slot);
-        self.master.set_like(cells, now.slot, slot, parts, groups);
-        self.tasks.set_current(task, number);
-        self.slots.drop_later(now.number);
-        Ok(Answer::Sealed { cred: number, slot })
+        let cred = replace_in(
+            &mut self.tasks,
+            &mut self.dump,
+            &mut self.slots,
+            &mut self.master,
+            cells,
+            task,
+            slot,
+            now,
+            parts,
+            groups,
+            other,
+        );
+        Ok(Answer::Sealed { cred, slot })
     }
 
     /// The current credential of a task that makes an id call for itself alone. `Err` with what

@@ -1,18 +1,6 @@
-use Rattle.cred_model.specs.State.{Task, task_of}
-use Rattle.cred_state.proofs.Reading.{is_found}
-use Rattle.cred_state.proofs.Standing.{current-in_use}
-use Rattle.cred_state.proofs.Traces.{ids_differ}
+use Rattle.std.proofs.Common.{rules}
 use Rattle.cred_state.proofs.state.State.act.Goals as goal
 
-pub read_parts-parts-requires-clause-found : goal.read_parts-parts-requires-clause-found
-read_parts-parts-requires-clause-found c =
-    let s = c.args.self.now.state in
-    is_found s.creds (λ (t : Task). t.current) (task_of s c.in-Some.next.task) _ c.in-Some.ensures.has
-
-pub read_parts-parts-requires-clause-used : goal.read_parts-parts-requires-clause-used
-read_parts-parts-requires-clause-used c = current-in_use c.args.self.now.state c.in-Some.next.task _ c.in-Some.ensures.has
-
-pub act_with-requires-clause-other : goal.act_with-requires-clause-other
-act_with-requires-clause-other c =
-    rw c.read_parts-parts.ensures.same
-    (ids_differ _ _ c.follow.new.parts _ _ c.differs_by-other.ensures c.read_parts-parts.ensures.parts.0)
+-- what the step before made is made of this credential too, with the same word on its ids
+pub act_with-requires-clause-made : goal.act_with-requires-clause-made
+act_with-requires-clause-made c = search rules

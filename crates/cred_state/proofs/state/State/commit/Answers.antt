@@ -1,7 +1,7 @@
 use Rattle.std.proofs.Common.{refl, ap, ◌∙◌}
 use Rattle.cred_model.specs.LabelEvents.{is_access}
-use Rattle.cred_tables.specs.Kept.{as_parts, state_of}
 use Rattle.cred_tables.proofs.Owners.{owner_of, own_owner, over_owner}
+use Rattle.cred_state.proofs.Seen.{seen_state}
 use Rattle.cred_state.proofs.Commits.{commit_none, commit_no_task, commit_busy, commit_overridden, commit_stale}
 use Rattle.cred_state.proofs.state.State.commit.Goals as goal
 
@@ -18,7 +18,7 @@ returns-in-Some-begun-clause-ok c =
     let ready = c.in-Some.ensures in
     let busy = rw (← c.self.view_is) at c.in-Some-begun.ensures in
     let t = c.self.inside in
-    let s = state_of (as_parts t.tasks t.broadcasts t.files t.holds t.prepared t.dump t.infos) t.master.slots t.slots in
+    let s = seen_state t in
     rw (← c.self.view_is)
     (let own = owner_of s c.in-Some.field-0.task c.in-Some-current.now c.in-Some-current.ensures in
     commit_busy s c.args.label _ ready.last ready.found refl (ap is_access ready.by ∙ ready.for_task) c.in-Some-begun.broadcast own.0 own.1 busy)
@@ -29,7 +29,7 @@ returns-in-Some-overridden-clause-ok c =
     let over = rw (← c.self.view_is) at c.in-Some-overridden.ensures in
     let idle = rw (← c.self.view_is) at c.in_default-begun.ensures in
     let t = c.self.inside in
-    let s = state_of (as_parts t.tasks t.broadcasts t.files t.holds t.prepared t.dump t.infos) t.master.slots t.slots in
+    let s = seen_state t in
     rw (← c.self.view_is)
     (let own = owner_of s c.in-Some.field-0.task c.in-Some-current.now c.in-Some-current.ensures in
     commit_overridden s c.args.label _ ready.last ready.found refl (ap is_access ready.by ∙ ready.for_task) c.in-Some-overridden.depth own.0 own.1 idle
@@ -42,7 +42,7 @@ returns-then-now-base-clause-ok c =
     let idle = rw (← c.self.view_is) at c.in_default-begun.ensures in
     let aborts = rw (← c.self.view_is) at c.abort.ensures.made in
     let t = c.self.inside in
-    let s = state_of (as_parts t.tasks t.broadcasts t.files t.holds t.prepared t.dump t.infos) t.master.slots t.slots in
+    let s = seen_state t in
     rw (← c.self.view_is)
     (let own = owner_of s c.in-Some.field-0.task c.in-Some-current.now c.in-Some-current.ensures in
     commit_stale s c.args.label _ ready.last ready.found refl (ap is_access ready.by ∙ ready.for_task) c.abort.new.self.state c.abort.result

@@ -8,8 +8,9 @@ use Rattle.cred_model.proofs.Places.{find-at}
 use Rattle.cred_model.specs.Broadcasts.{broadcasts_left}
 use Rattle.cred_slots.specs.Table.{Table}
 use Rattle.cred_procs.specs.Tasks.{task_in}
-use Rattle.cred_tables.specs.Kept.{SealsKept, as_parts, state_of}
+use Rattle.cred_tables.specs.Kept.{SealsKept}
 use Rattle.cred_tables.specs.Prepared.{changed_of}
+use Rattle.cred_state.proofs.Seen.{seen_state}
 use Rattle.cred_state.proofs.Commits.{goes_on, owner-held, base-held_still, slot-kept_still, commit_kept, commit_done}
 use Rattle.cred_tables.proofs.Ending.{EndsWith, ends_so, ended-held}
 use Rattle.cred_tables.proofs.Labels.{same_label}
@@ -115,8 +116,7 @@ invariant_of-self-2 c =
     let broadcasts : c.drop_broadcast.new.broadcasts ≡ broadcasts_left c.args.change e.owner.process t.broadcasts
     = c.drop_broadcast.ensures ∙ ap (λ (x : Change). broadcasts_left x c.unwrap-process.result t.broadcasts) change
     ∙ ap (λ (n : ℕ). broadcasts_left c.args.change n t.broadcasts) process in
-    let s = state_of (as_parts t.tasks t.broadcasts t.files t.holds t.prepared t.dump t.infos) t.master.slots
-    t.slots in
+    let s = seen_state t in
     let changed : changed_of t.prepared c.args.label ≡ Some c.finish-last.result.1
     = ap (option_and_then (λ (p : Prepared). p.changed))
     (find-at (λ (p : Prepared). p.label == c.args.label) t.prepared gives.gives.place _
@@ -163,8 +163,7 @@ returns-clause-ok c =
     let broadcasts : c.drop_broadcast.new.broadcasts ≡ broadcasts_left c.args.change e.owner.process t.broadcasts
     = c.drop_broadcast.ensures ∙ ap (λ (x : Change). broadcasts_left x c.unwrap-process.result t.broadcasts) change
     ∙ ap (λ (n : ℕ). broadcasts_left c.args.change n t.broadcasts) process in
-    let s = state_of (as_parts t.tasks t.broadcasts t.files t.holds t.prepared t.dump t.infos) t.master.slots
-    t.slots in
+    let s = seen_state t in
     let changed : changed_of t.prepared c.args.label ≡ Some c.finish-last.result.1
     = ap (option_and_then (λ (p : Prepared). p.changed))
     (find-at (λ (p : Prepared). p.label == c.args.label) t.prepared gives.gives.place _
@@ -177,7 +176,7 @@ returns-clause-ok c =
     (commit_done c.self.invariant.0 gives.gives.place _ gives.gives.there c.args.change now own less c.seal_kept-number.new.slots
     c.finish-last.result.1 words seals sound.tasks sound.slots.own c.args.label (length c.items-2.result.now) gives.gives.found refl
     (ap is_access same.2 ∙ ready.for_task) (rw same.0 idle)
-    (own_owner (state_of (as_parts t.tasks t.broadcasts t.files t.holds t.prepared t.dump t.infos) t.master.slots t.slots) gives.task own.owner own.lives
+    (own_owner (seen_state t) gives.task own.owner own.lives
     (rw same.0 allowed))
     same.2 (sym same.1)
     (ap length c.items-2.ensures))

@@ -3,9 +3,9 @@ use Rattle.std.specs.Option.{option_map_or}
 use Rattle.cred_model.specs.State.{Task}
 use Rattle.cred_model.specs.Moves.{first_task}
 use Rattle.cred_model.proofs.Numbers.{current_is}
-use Rattle.cred_tables.specs.Kept.{as_parts, state_of}
 use Rattle.cred_tables.proofs.Sealing.{current-held, referred_to}
 use Rattle.cred_sound.proofs.Flags.{unflagged}
+use Rattle.cred_state.proofs.Seen.{seen_parts, seen_state}
 use Rattle.cred_state.proofs.Broadcasts.{kept_beside}
 use Rattle.cred_state.proofs.Creating.{fork_done}
 use Rattle.cred_state.proofs.Inits.{kept_child}
@@ -49,7 +49,7 @@ invariant_of-self-in_err-fork_in c =
 pub invariant_of-self-2 : goal.invariant_of-self-2
 invariant_of-self-2 c =
     let t = c.self.inside in
-    let s = state_of (as_parts t.tasks t.broadcasts t.files t.holds t.prepared t.dump t.infos) t.master.slots t.slots in
+    let s = seen_state t in
     let may = rw (← c.self.view_is) at c.in-Ok.ensures in
     let u = current_is s c.args.task _ may.0.has in
     let grown = c.in_ok-fork_in.ensures.tasks
@@ -67,6 +67,6 @@ returns-clause-ok c =
     let may = rw (← c.self.view_is) at c.in-Ok.ensures in
     let t = c.self.inside in
     rw (← c.self.view_is)
-    (fork_done (as_parts t.tasks t.broadcasts t.files t.holds t.prepared t.dump t.infos) t.master.slots t.slots c.in_ok-reserve.ensures.ok c.add.ensures.table
+    (fork_done (seen_parts t) t.master.slots t.slots c.in_ok-reserve.ensures.ok c.add.ensures.table
     c.args.task c.args.child _ may.0 c.args.process may.1
     c.in_ok-fork_in.ensures.tasks c.in_ok-fork_in.ensures.flags)

@@ -1,7 +1,7 @@
 use Rattle.std.proofs.Common.{length, sym, ◌∙◌}
 use Rattle.cred_model.proofs.Likes.{does_same}
 use Rattle.cred_model.proofs.Places.{none_by_test}
-use Rattle.cred_tables.specs.Kept.{as_parts, state_of}
+use Rattle.cred_state.proofs.Seen.{seen_state}
 use Rattle.cred_state.proofs.Inits.{few_by_test, init_busy, init_exists, init_many, many_by_test}
 use Rattle.cred_state.proofs.state.State.init.Goals as goal
 
@@ -29,7 +29,7 @@ returns-in-Some-clause-ok c =
 pub returns-then-alive-clause-ok : goal.returns-then-alive-clause-ok
 returns-then-alive-clause-ok c =
     let t = c.self.inside in
-    let s = state_of (as_parts t.tasks t.broadcasts t.files t.holds t.prepared t.dump t.infos) t.master.slots t.slots in
+    let s = seen_state t in
     let idle = rw (← c.self.view_is) at c.in_default.ensures in
     rw (← c.self.view_is)
     (does_same _ _ _ (init_exists s c.args.number c.args.process c.args.user c.args.group c.args.ns c.args.root idle (sym c.alive.ensures ∙ c.if-alive.true)))
@@ -37,7 +37,7 @@ returns-then-alive-clause-ok c =
 pub returns-then-full-clause-ok : goal.returns-then-full-clause-ok
 returns-then-full-clause-ok c =
     let t = c.self.inside in
-    let s = state_of (as_parts t.tasks t.broadcasts t.files t.holds t.prepared t.dump t.infos) t.master.slots t.slots in
+    let s = seen_state t in
     let idle = rw (← c.self.view_is) at c.in_default.ensures in
     let new = none_by_test _ c.alive.result c.alive.ensures c.if-alive.false in
     let many = many_by_test (length t.tasks) c.full.result c.full.ensures.full c.if-full.true in

@@ -1,6 +1,7 @@
 use Rattle.std.proofs.Common.{◌≡◌, refl, sym, ◌∙◌}
 use Rattle.std.proofs.lemmas.Option.{same_Some}
-use Rattle.cred_tables.specs.Kept.{cred_under, as_parts, state_of}
+use Rattle.cred_tables.specs.Kept.{cred_under}
+use Rattle.cred_state.proofs.Seen.{seen_state}
 use Rattle.cred_state.proofs.Reading.{found-sealed, found-place}
 use Rattle.cred_state.proofs.state.State.lend_found.Goals as goal
 
@@ -11,7 +12,7 @@ lend-requires-clause-sealed c =
 pub returns-clause-hold : goal.returns-clause-hold
 returns-clause-hold c =
     let t = c.self.inside in
-    let s = state_of (as_parts t.tasks t.broadcasts t.files t.holds t.prepared t.dump t.infos) t.master.slots t.slots in
+    let s = seen_state t in
     let own = rw (← c.self.view_is) at c.requires.own in
     let place = found-place c.self.invariant.0 c.args.found (rw (← c.self.view_is) at c.requires.found) (rw (← c.self.view_is) at c.requires.used) in
     let cred : c.lend.result.cred ≡ cred_under s.creds c.args.found.number = same_Some _ _ (same_Some _ _ (sym c.lend.ensures.cred ∙ place)) in

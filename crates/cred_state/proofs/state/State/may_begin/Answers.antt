@@ -2,7 +2,7 @@ use Rattle.std.proofs.Common.{ℕ, Some, sym, ap, ◌∙◌}
 use Rattle.cred_model.specs.Broadcasts.{not_busy}
 use Rattle.cred_model.proofs.Numbers.{current_is}
 use Rattle.cred_cast.specs.Broadcasts.{broadcast_under, broadcast_within}
-use Rattle.cred_tables.specs.Kept.{as_parts, state_of}
+use Rattle.cred_state.proofs.Seen.{seen_state}
 use Rattle.cred_state.proofs.Begins.{begin_without, begin_busy, begin_exists, begin_overridden}
 use Rattle.cred_state.proofs.Broadcasts.{busy_by, none_open, some_open}
 use Rattle.cred_tables.proofs.Owners.{has_process, own_owner, over_owner, owner_process}
@@ -15,7 +15,7 @@ returns-in_default c = λ call. begin_without c.args.self.now.state c.args.line 
 pub unwrap-process-requires : goal.unwrap-process-requires
 unwrap-process-requires c =
     let t = c.self.inside in
-    let s = state_of (as_parts t.tasks t.broadcasts t.files t.holds t.prepared t.dump t.infos) t.master.slots t.slots in
+    let s = seen_state t in
     let has = rw (← c.self.view_is) at c.in-Some.ensures in
     let u = current_is s c.args.task _ (sym has) in
     has_process u.owner u.is c.process_of.ensures
@@ -23,7 +23,7 @@ unwrap-process-requires c =
 pub returns-in-Some-open_in : goal.returns-in-Some-open_in
 returns-in-Some-open_in c = λ call.
     let t = c.self.inside in
-    let s = state_of (as_parts t.tasks t.broadcasts t.files t.holds t.prepared t.dump t.infos) t.master.slots t.slots in
+    let s = seen_state t in
     let has = rw (← c.self.view_is) at c.in-Some.ensures in
     let u = current_is s c.args.task _ (sym has) in
     let process = owner_process t.tasks c.args.task c.unwrap-process.result u.owner u.is c.unwrap-process.ensures c.process_of.ensures in
@@ -35,7 +35,7 @@ returns-in-Some-open_in c = λ call.
 pub returns-then-is_some : goal.returns-then-is_some
 returns-then-is_some c = λ call.
     let t = c.self.inside in
-    let s = state_of (as_parts t.tasks t.broadcasts t.files t.holds t.prepared t.dump t.infos) t.master.slots t.slots in
+    let s = seen_state t in
     let has = rw (← c.self.view_is) at c.in-Some.ensures in
     let u = current_is s c.args.task _ (sym has) in
     let process = owner_process t.tasks c.args.task c.unwrap-process.result u.owner u.is c.unwrap-process.ensures c.process_of.ensures in
@@ -47,7 +47,7 @@ returns-then-is_some c = λ call.
 pub returns-in-Some-overridden : goal.returns-in-Some-overridden
 returns-in-Some-overridden c = λ call.
     let t = c.self.inside in
-    let s = state_of (as_parts t.tasks t.broadcasts t.files t.holds t.prepared t.dump t.infos) t.master.slots t.slots in
+    let s = seen_state t in
     let has = rw (← c.self.view_is) at c.in-Some.ensures in
     let u = current_is s c.args.task _ (sym has) in
     let process = owner_process t.tasks c.args.task c.unwrap-process.result u.owner u.is c.unwrap-process.ensures c.process_of.ensures in
@@ -64,7 +64,7 @@ returns-in-Some-overridden c = λ call.
 pub returns : goal.returns
 returns c =
     let t = c.self.inside in
-    let s = state_of (as_parts t.tasks t.broadcasts t.files t.holds t.prepared t.dump t.infos) t.master.slots t.slots in
+    let s = seen_state t in
     let has = rw (← c.self.view_is) at c.in-Some.ensures in
     let u = current_is s c.args.task _ (sym has) in
     let process = owner_process t.tasks c.args.task c.unwrap-process.result u.owner u.is c.unwrap-process.ensures c.process_of.ensures in

@@ -1,8 +1,8 @@
 use Rattle.std.proofs.Common.{length, sym, ◌∙◌}
 use Rattle.cred_model.proofs.Numbers.{current_is}
 use Rattle.cred_model.proofs.Places.{none_by_test}
-use Rattle.cred_tables.specs.Kept.{as_parts, state_of}
 use Rattle.cred_tables.proofs.Owners.{own_owner, over_owner}
+use Rattle.cred_state.proofs.Seen.{seen_state}
 use Rattle.cred_state.proofs.Creating.{creating_none, creating_busy, creating_exists, creating_used, creating_overridden, creating_many}
 use Rattle.cred_state.proofs.Inits.{few_by_test, many_by_test}
 use Rattle.cred_state.proofs.state.State.may_create.Goals as goal
@@ -19,7 +19,7 @@ returns-in-Some-begun c =
 pub returns-then-alive : goal.returns-then-alive
 returns-then-alive c =
     let t = c.self.inside in
-    let s = state_of (as_parts t.tasks t.broadcasts t.files t.holds t.prepared t.dump t.infos) t.master.slots t.slots in
+    let s = seen_state t in
     let has = rw (← c.self.view_is) at c.in-Some.ensures in
     let u = current_is s c.args.task _ (sym has) in
     let idle = rw (← c.self.view_is) at c.in_default-begun.ensures in
@@ -29,7 +29,7 @@ returns-then-alive c =
 pub returns-in-Some-in_use : goal.returns-in-Some-in_use
 returns-in-Some-in_use c =
     let t = c.self.inside in
-    let s = state_of (as_parts t.tasks t.broadcasts t.files t.holds t.prepared t.dump t.infos) t.master.slots t.slots in
+    let s = seen_state t in
     let has = rw (← c.self.view_is) at c.in-Some.ensures in
     let u = current_is s c.args.task _ (sym has) in
     let idle = rw (← c.self.view_is) at c.in_default-begun.ensures in
@@ -40,7 +40,7 @@ returns-in-Some-in_use c =
 pub returns-in-Some-overridden : goal.returns-in-Some-overridden
 returns-in-Some-overridden c =
     let t = c.self.inside in
-    let s = state_of (as_parts t.tasks t.broadcasts t.files t.holds t.prepared t.dump t.infos) t.master.slots t.slots in
+    let s = seen_state t in
     let has = rw (← c.self.view_is) at c.in-Some.ensures in
     let u = current_is s c.args.task _ (sym has) in
     let idle = rw (← c.self.view_is) at c.in_default-begun.ensures in
@@ -54,7 +54,7 @@ returns-in-Some-overridden c =
 pub returns-then-full : goal.returns-then-full
 returns-then-full c =
     let t = c.self.inside in
-    let s = state_of (as_parts t.tasks t.broadcasts t.files t.holds t.prepared t.dump t.infos) t.master.slots t.slots in
+    let s = seen_state t in
     let has = rw (← c.self.view_is) at c.in-Some.ensures in
     let u = current_is s c.args.task _ (sym has) in
     let idle = rw (← c.self.view_is) at c.in_default-begun.ensures in
@@ -68,7 +68,7 @@ returns-then-full c =
 pub returns : goal.returns
 returns c =
     let t = c.self.inside in
-    let s = state_of (as_parts t.tasks t.broadcasts t.files t.holds t.prepared t.dump t.infos) t.master.slots t.slots in
+    let s = seen_state t in
     let has = rw (← c.self.view_is) at c.in-Some.ensures in
     let u = current_is s c.args.task _ (sym has) in
     let idle = rw (← c.self.view_is) at c.in_default-begun.ensures in

@@ -1,6 +1,6 @@
 use Rattle.std.proofs.Common.{length, sym, ◌∙◌, arith}
 use Rattle.cred_model.proofs.Places.{none_by_test}
-use Rattle.cred_tables.specs.Kept.{as_parts, state_of}
+use Rattle.cred_state.proofs.Seen.{seen_state}
 use Rattle.cred_state.proofs.Labelling.{present, held_hold, neither_found, no_number, prepare_no_task, prepare_busy, prepare_no_hold, prepare_exists}
 use Rattle.cred_state.proofs.Labelling.{prepare_many, many_prepared}
 use Rattle.cred_state.proofs.state.State.may_prepare.Goals as goal
@@ -29,13 +29,13 @@ returns c =
 pub returns-then-not-alive : goal.returns-then-not-alive
 returns-then-not-alive c =
     let t = c.self.inside in
-    let s = state_of (as_parts t.tasks t.broadcasts t.files t.holds t.prepared t.dump t.infos) t.master.slots t.slots in
+    let s = seen_state t in
     rw (← c.self.view_is) (prepare_no_task s c.args.label c.args.task c.args.hold (none_by_test _ c.alive.result c.alive.ensures c.if-not-alive.true))
 
 pub returns-in-Some : goal.returns-in-Some
 returns-in-Some c =
     let t = c.self.inside in
-    let s = state_of (as_parts t.tasks t.broadcasts t.files t.holds t.prepared t.dump t.infos) t.master.slots t.slots in
+    let s = seen_state t in
     let owner = present c.args.task t.tasks c.alive.result c.alive.ensures c.if-not-alive.false in
     let busy = rw (← c.self.view_is) at c.in-Some.ensures in
     rw (← c.self.view_is) (prepare_busy s c.args.label c.args.task c.args.hold owner.0 owner.1 c.in-Some.broadcast busy)
@@ -43,7 +43,7 @@ returns-in-Some c =
 pub returns-in_default-get : goal.returns-in_default-get
 returns-in_default-get c =
     let t = c.self.inside in
-    let s = state_of (as_parts t.tasks t.broadcasts t.files t.holds t.prepared t.dump t.infos) t.master.slots t.slots in
+    let s = seen_state t in
     let owner = present c.args.task t.tasks c.alive.result c.alive.ensures c.if-not-alive.false in
     let idle = rw (← c.self.view_is) at c.in_default.ensures in
     rw (← c.self.view_is) (prepare_no_hold s c.args.label c.args.task c.args.hold owner.0 owner.1 idle (no_number _ c.in_default-get.ensures))
@@ -51,7 +51,7 @@ returns-in_default-get c =
 pub returns-then-has_label : goal.returns-then-has_label
 returns-then-has_label c =
     let t = c.self.inside in
-    let s = state_of (as_parts t.tasks t.broadcasts t.files t.holds t.prepared t.dump t.infos) t.master.slots t.slots in
+    let s = seen_state t in
     let owner = present c.args.task t.tasks c.alive.result c.alive.ensures c.if-not-alive.false in
     let idle = rw (← c.self.view_is) at c.in_default.ensures in
     let base = held_hold _ c.in-Some-get.base c.in-Some-get.ensures in
@@ -61,7 +61,7 @@ returns-then-has_label c =
 pub returns-then-len-ge-PREPARED : goal.returns-then-len-ge-PREPARED
 returns-then-len-ge-PREPARED c =
     let t = c.self.inside in
-    let s = state_of (as_parts t.tasks t.broadcasts t.files t.holds t.prepared t.dump t.infos) t.master.slots t.slots in
+    let s = seen_state t in
     let owner = present c.args.task t.tasks c.alive.result c.alive.ensures c.if-not-alive.false in
     let idle = rw (← c.self.view_is) at c.in_default.ensures in
     let base = held_hold _ c.in-Some-get.base c.in-Some-get.ensures in

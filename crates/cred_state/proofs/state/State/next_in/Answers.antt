@@ -3,14 +3,14 @@ use Rattle.std.specs.Option.{option_and_then}
 use Rattle.cred_cast.proofs.Left.{none_there, placed_there, placed_within}
 use Rattle.cred_model.specs.State.{Broadcast}
 use Rattle.cred_model.proofs.Places.{if_some}
-use Rattle.cred_tables.specs.Kept.{as_parts, state_of}
+use Rattle.cred_state.proofs.Seen.{seen_state}
 use Rattle.cred_state.proofs.Acts.{next_is, next-lives, least_is, place_within, current_there, act_none, act_without}
 use Rattle.cred_state.proofs.state.State.next_in.Goals as goal
 
 pub returns-in_default : goal.returns-in_default
 returns-in_default c =
     let t = c.self.inside in
-    let s = state_of (as_parts t.tasks t.broadcasts t.files t.holds t.prepared t.dump t.infos) t.master.slots t.slots in
+    let s = seen_state t in
     let none = none_there (λ (b : Broadcast). b.number == c.args.number) s.broadcasts (sym c.in_default.ensures) in
     rw (← c.self.view_is)
     (act_none s c.args.number (sym (ap (option_and_then (λ (b : Broadcast). slice_get b.waiting 0)) none)))
@@ -23,7 +23,7 @@ least_at-task-requires c =
 pub unwrap-place-requires : goal.unwrap-place-requires
 unwrap-place-requires c =
     let t = c.self.inside in
-    let s = state_of (as_parts t.tasks t.broadcasts t.files t.holds t.prepared t.dump t.infos) t.master.slots t.slots in
+    let s = seen_state t in
     let sound = rw (← c.self.view_is) at c.requires in
     let at = placed_within (λ (b : Broadcast). b.number == c.args.number) s.broadcasts c.in-Some.broadcast (sym c.in-Some.ensures) in
     let under = placed_there (λ (b : Broadcast). b.number == c.args.number) s.broadcasts c.in-Some.broadcast (sym c.in-Some.ensures) in
@@ -33,7 +33,7 @@ unwrap-place-requires c =
 pub current_at-requires : goal.current_at-requires
 current_at-requires c =
     let t = c.self.inside in
-    let s = state_of (as_parts t.tasks t.broadcasts t.files t.holds t.prepared t.dump t.infos) t.master.slots t.slots in
+    let s = seen_state t in
     let sound = rw (← c.self.view_is) at c.requires in
     let at = placed_within (λ (b : Broadcast). b.number == c.args.number) s.broadcasts c.in-Some.broadcast (sym c.in-Some.ensures) in
     let under = placed_there (λ (b : Broadcast). b.number == c.args.number) s.broadcasts c.in-Some.broadcast (sym c.in-Some.ensures) in
@@ -43,7 +43,7 @@ current_at-requires c =
 pub returns-in_default-sealed_at : goal.returns-in_default-sealed_at
 returns-in_default-sealed_at c =
     let t = c.self.inside in
-    let s = state_of (as_parts t.tasks t.broadcasts t.files t.holds t.prepared t.dump t.infos) t.master.slots t.slots in
+    let s = seen_state t in
     let sound = rw (← c.self.view_is) at c.requires in
     let at = placed_within (λ (b : Broadcast). b.number == c.args.number) s.broadcasts c.in-Some.broadcast (sym c.in-Some.ensures) in
     let under = placed_there (λ (b : Broadcast). b.number == c.args.number) s.broadcasts c.in-Some.broadcast (sym c.in-Some.ensures) in
@@ -55,7 +55,7 @@ returns-in_default-sealed_at c =
 pub returns : goal.returns
 returns c =
     let t = c.self.inside in
-    let s = state_of (as_parts t.tasks t.broadcasts t.files t.holds t.prepared t.dump t.infos) t.master.slots t.slots in
+    let s = seen_state t in
     let sound = rw (← c.self.view_is) at c.requires in
     let at = placed_within (λ (b : Broadcast). b.number == c.args.number) s.broadcasts c.in-Some.broadcast (sym c.in-Some.ensures) in
     let under = placed_there (λ (b : Broadcast). b.number == c.args.number) s.broadcasts c.in-Some.broadcast (sym c.in-Some.ensures) in

@@ -1,6 +1,6 @@
 use Rattle.std.proofs.Common.{refl, sym, ◌∙◌}
-use Rattle.cred_tables.specs.Kept.{as_parts, state_of}
 use Rattle.cred_tables.proofs.Bags.{bag-at}
+use Rattle.cred_state.proofs.Seen.{seen_state}
 use Rattle.cred_state.proofs.Overrides.{lends, lent_kept, lent_done}
 use Rattle.cred_tables.proofs.Sealing.{referred_to}
 use Rattle.cred_state.proofs.Standing.{held-in_use}
@@ -12,7 +12,7 @@ add-requires-clause-referred c =
     let has = rw (← c.self.view_is) at c.in-Some.ensures in
     referred_to t.slots c.reserve.new.self _ _ c.in_ok-reserve.ensures.ok
     (bag-at c.in-Some.field-0.number c.self.invariant.0.counted.counts
-    (held-in_use (state_of (as_parts t.tasks t.broadcasts t.files t.holds t.prepared t.dump t.infos) t.master.slots t.slots) c.args.label _ (sym has)))
+    (held-in_use (seen_state t) c.args.label _ (sym has)))
 
 pub invariant_of-self-2 : goal.invariant_of-self-2
 invariant_of-self-2 c =
@@ -25,7 +25,7 @@ invariant_of-self-2 c =
       lent_kept c.self.invariant.0 c.args.task c.push_override.new.self sound.tasks number lent c.reserve.new.self c.add.new.self
           c.in_ok-reserve.ensures.ok c.add.ensures.held c.add.ensures.table
           (bag-at number c.self.invariant.0.counted.counts
-          (held-in_use (state_of (as_parts t.tasks t.broadcasts t.files t.holds t.prepared t.dump t.infos) t.master.slots t.slots) c.args.label _ (sym has))),
+          (held-in_use (seen_state t) c.args.label _ (sym has))),
       c.self.invariant.1,
     )
 

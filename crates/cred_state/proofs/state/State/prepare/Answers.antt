@@ -3,10 +3,10 @@ use Rattle.cred_slots.specs.Table.{Table}
 use Rattle.cred_slots.proofs.Tables.{held_is_referred}
 use Rattle.cred_model.specs.State.{Prepared}
 use Rattle.cred_model.proofs.Likes.{does_same}
-use Rattle.cred_tables.specs.Kept.{as_parts}
 use Rattle.cred_tables.proofs.Cleared.{free_within}
 use Rattle.cred_tables.proofs.Outs.{free_alone, free_apart}
 use Rattle.cred_tables.proofs.Puts.{put_more}
+use Rattle.cred_state.proofs.Seen.{seen_parts}
 use Rattle.cred_state.proofs.Reading.{some_spare}
 use Rattle.cred_tables.proofs.Free.{full_swept}
 use Rattle.cred_state.proofs.Holding.{hold-held_found}
@@ -24,7 +24,7 @@ returns-in_default-clause-ok c =
     (does_same _ _ _ (prepare_full c.self.invariant.0 c.sweep.new.self c.args.label c.args.task c.args.hold
     c.in-Ok.base may
     (none_spare t.slots c.in_ok-reserve.ensures.ok none)
-    (roomy_spare (as_parts t.tasks t.broadcasts t.files t.holds t.prepared t.dump t.infos) t.master.slots t.slots _ _ _ c.in_ok-reserve.ensures.ok
+    (roomy_spare (seen_parts t) t.master.slots t.slots _ _ _ c.in_ok-reserve.ensures.ok
     (c.sweep.ensures ∙ sym (full_swept c.reserve.new.self none)))))
 
 pub claim-requires : goal.claim-requires

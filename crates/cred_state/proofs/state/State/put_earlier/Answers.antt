@@ -1,8 +1,9 @@
 use Rattle.std.proofs.Common.{◌≡◌, ℕ, List, None, Some, slice_get, slice_set, sym, ap, ◌∙◌, subst}
 use Rattle.cred_words.specs.Lists.{IsTaken}
 use Rattle.cred_hold.specs.Tokens.{Written, loan}
-use Rattle.cred_tables.specs.Kept.{creds_in, as_parts, state_of}
+use Rattle.cred_tables.specs.Kept.{creds_in}
 use Rattle.cred_tables.proofs.Stored.{slots-creds_in}
+use Rattle.cred_state.proofs.Seen.{seen_state}
 use Rattle.cred_state.specs.TokensOut.{earlier_of}
 use Rattle.cred_state.proofs.Returns.{earlier_kept, earlier_like, set_within}
 use Rattle.cred_state.proofs.state.State.put_earlier.Goals as goal
@@ -10,7 +11,7 @@ use Rattle.cred_state.proofs.state.State.put_earlier.Goals as goal
 pub invariant_of-self : goal.invariant_of-self
 invariant_of-self c =
     let t = c.self.inside in
-    let s = state_of (as_parts t.tasks t.broadcasts t.files t.holds t.prepared t.dump t.infos) t.master.slots t.slots in
+    let s = seen_state t in
     let sound = rw (← c.self.view_is) at c.requires.sound in
     let are = rw (← c.self.view_is) at c.requires.out in
     let new = c.take_back.new.self in
@@ -29,7 +30,7 @@ invariant_of-self c =
 pub returns-clause-like : goal.returns-clause-like
 returns-clause-like c =
     let t = c.self.inside in
-    let s = state_of (as_parts t.tasks t.broadcasts t.files t.holds t.prepared t.dump t.infos) t.master.slots t.slots in
+    let s = seen_state t in
     let sound = rw (← c.self.view_is) at c.requires.sound in
     let are = rw (← c.self.view_is) at c.requires.out in
     let new = c.take_back.new.self in
@@ -48,6 +49,6 @@ returns-clause-like c =
 pub returns-clause-state : goal.returns-clause-state
 returns-clause-state c =
     let t = c.self.inside in
-    let s = state_of (as_parts t.tasks t.broadcasts t.files t.holds t.prepared t.dump t.infos) t.master.slots t.slots in
+    let s = seen_state t in
     rw (← c.self.view_is)
     (ap (λ (ss : List ℕ). record s { creds = creds_in c.take_back.new.self.slots ss }) (sym (slots-creds_in t.master.slots t.slots.sealed)))

@@ -1,6 +1,7 @@
 use Rattle.std.proofs.Common.{sym}
 use Rattle.cred_model.specs.State.{Task, task_of}
 use Rattle.cred_tables.specs.Kept.{cred_under}
+use Rattle.cred_state.proofs.Raw.{raw_refused}
 use Rattle.cred_state.proofs.Reading.{is_found}
 use Rattle.cred_state.proofs.Standing.{current-in_use}
 use Rattle.cred_state.proofs.Traces.{ids_differ}
@@ -28,3 +29,11 @@ returns-in-Ok-apply_parts-clause-ok c =
     (sym c.read_parts-parts.ensures.parts.0) in
     rw (← c.read_parts-parts.ensures.same)
     (c.raw_with.ensures.ok c.args.call.now (rw c.read_parts-parts.ensures.same becomes))
+
+pub returns-in-Err-apply_parts-clause-ok : goal.returns-in-Err-apply_parts-clause-ok
+returns-in-Err-apply_parts-clause-ok c =
+    let s = c.args.self.now.state in
+    let becomes = c.in-Err-apply_parts.ensures.made (cred_under s.creds c.in-Ok.now.number) (sym c.read_parts-parts.ensures.parts.0) in
+    rw c.read_parts-parts.ensures.same
+    (raw_refused s c.args.task c.args.call.now _ c.in-Ok.ensures c.refusal_answer.result c.in-Err-apply_parts.refusal c.read_parts-parts.result
+    c.apply_parts.new.own becomes c.refusal_answer.ensures.answer)

@@ -1,4 +1,4 @@
-use Rattle.cred_tables.specs.Kept.{as_parts, state_of}
+use Rattle.cred_state.proofs.Seen.{seen_state}
 use Rattle.cred_state.proofs.Broadcasts.{kept_beside}
 use Rattle.cred_state.proofs.Traces.{dumpable_invalid, dumpable_none, dumpable_set}
 use Rattle.cred_state.proofs.state.State.set_dumpable.Goals as goal
@@ -6,15 +6,13 @@ use Rattle.cred_state.proofs.state.State.set_dumpable.Goals as goal
 pub returns-in_default-clause-made : goal.returns-in_default-clause-made
 returns-in_default-clause-made c =
     let t = c.self.inside in
-    let s = state_of (as_parts t.tasks t.broadcasts t.files t.holds t.prepared t.dump t.infos) t.master.slots
-    t.slots in
+    let s = seen_state t in
     rw (← c.self.view_is) (dumpable_none s c.args.task c.args.value c.in_default.ensures)
 
 pub returns-in_default-flag_of_value-clause-made : goal.returns-in_default-flag_of_value-clause-made
 returns-in_default-flag_of_value-clause-made c =
     let t = c.self.inside in
-    let s = state_of (as_parts t.tasks t.broadcasts t.files t.holds t.prepared t.dump t.infos) t.master.slots
-    t.slots in
+    let s = seen_state t in
     rw (← c.self.view_is)
     (dumpable_invalid s c.args.task c.args.value c.in-Some.process c.in-Some.ensures
     c.in_default-flag_of_value.ensures)
@@ -26,8 +24,7 @@ invariant_of-self c =
 pub returns-clause-made : goal.returns-clause-made
 returns-clause-made c =
     let t = c.self.inside in
-    let s = state_of (as_parts t.tasks t.broadcasts t.files t.holds t.prepared t.dump t.infos) t.master.slots
-    t.slots in
+    let s = seen_state t in
     rw (← c.self.view_is, c.set.ensures)
     (dumpable_set s c.args.task c.args.value c.in-Some.process c.in-Some-flag_of_value.dumpable
     c.in-Some.ensures c.in-Some-flag_of_value.ensures)

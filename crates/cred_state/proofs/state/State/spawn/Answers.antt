@@ -4,8 +4,8 @@ use Rattle.cred_model.specs.State.{Task}
 use Rattle.cred_model.specs.Moves.{first_task}
 use Rattle.cred_model.proofs.Numbers.{current_is}
 use Rattle.cred_cast.proofs.Conditions.{dead_waits_nowhere}
-use Rattle.cred_tables.specs.Kept.{as_parts, state_of}
 use Rattle.cred_tables.proofs.Sealing.{current-held, referred_to}
+use Rattle.cred_state.proofs.Seen.{seen_parts, seen_state}
 use Rattle.cred_state.proofs.Creating.{spawn_done}
 use Rattle.cred_state.proofs.Inits.{kept_child}
 use Rattle.cred_state.proofs.Reserved.{kept_spare}
@@ -29,7 +29,7 @@ spawn_in-requires-clause-room c =
 pub spawn_in-requires-clause-nowhere : goal.spawn_in-requires-clause-nowhere
 spawn_in-requires-clause-nowhere c =
     let t = c.self.inside in
-    let s = state_of (as_parts t.tasks t.broadcasts t.files t.holds t.prepared t.dump t.infos) t.master.slots t.slots in
+    let s = seen_state t in
     let may = rw (← c.self.view_is) at c.in-Ok.ensures in
     let sound = rw (← c.self.view_is) at c.requires in
     dead_waits_nowhere s c.args.child sound may.0.new
@@ -50,7 +50,7 @@ invariant_of-self-in_err-spawn_in c =
 pub invariant_of-self-2 : goal.invariant_of-self-2
 invariant_of-self-2 c =
     let t = c.self.inside in
-    let s = state_of (as_parts t.tasks t.broadcasts t.files t.holds t.prepared t.dump t.infos) t.master.slots t.slots in
+    let s = seen_state t in
     let may = rw (← c.self.view_is) at c.in-Ok.ensures in
     let u = current_is s c.args.task _ may.0.has in
     let grown = c.in_ok-spawn_in.ensures.tasks
@@ -66,5 +66,5 @@ returns-clause-ok c =
     let may = rw (← c.self.view_is) at c.in-Ok.ensures in
     let t = c.self.inside in
     rw (← c.self.view_is)
-    (spawn_done (as_parts t.tasks t.broadcasts t.files t.holds t.prepared t.dump t.infos) t.master.slots t.slots c.in_ok-reserve.ensures.ok c.add.ensures.table
+    (spawn_done (seen_parts t) t.master.slots t.slots c.in_ok-reserve.ensures.ok c.add.ensures.table
     c.args.task c.args.child _ may.0 c.in_ok-spawn_in.ensures.tasks c.in_ok-spawn_in.ensures.broadcasts)

@@ -1,8 +1,8 @@
 use Rattle.std.proofs.Common.{slice_set, Some, sym, ap, ◌∙◌}
 use Rattle.cred_record.specs.Credential.{Credential}
 use Rattle.cred_hold.specs.Tokens.{Mastered}
-use Rattle.cred_tables.specs.Kept.{as_parts}
 use Rattle.cred_tables.proofs.Free.{full_swept}
+use Rattle.cred_state.proofs.Seen.{seen_parts}
 use Rattle.cred_state.proofs.Inits.{init_full, init_kept, init_sealed, started}
 use Rattle.cred_tables.proofs.Sealing.{none_spare, roomy_spare, seals_spare}
 use Rattle.cred_tables.proofs.Outs.{free_alone, free_apart}
@@ -21,7 +21,7 @@ returns-in_default-clause-ok c = λ user group ns root is.
     rw (← c.self.view_is)
     (init_full c.self.invariant.0 c.sweep.new.self c.args.number c.args.process idle new room user group ns root
     (none_spare t.slots c.in_ok-reserve.ensures.ok none)
-    (roomy_spare (as_parts t.tasks t.broadcasts t.files t.holds t.prepared t.dump t.infos) t.master.slots t.slots _ _ _ c.in_ok-reserve.ensures.ok
+    (roomy_spare (seen_parts t) t.master.slots t.slots _ _ _ c.in_ok-reserve.ensures.ok
     (c.sweep.ensures ∙ sym (full_swept c.reserve.new.self none))))
 
 pub start_in-requires-clause-new : goal.start_in-requires-clause-new

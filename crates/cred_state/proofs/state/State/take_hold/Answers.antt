@@ -1,8 +1,8 @@
 use Rattle.std.proofs.Common.{refl, rules}
-use Rattle.cred_tables.specs.Kept.{as_parts, state_of}
 use Rattle.cred_tables.proofs.Bags.{bag-at}
 use Rattle.cred_tables.proofs.InUse.{in_use-hold}
 use Rattle.cred_tables.proofs.Sealing.{kept_more, referred_to}
+use Rattle.cred_state.proofs.Seen.{seen_state}
 use Rattle.cred_state.proofs.Reserved.{kept_spare}
 use Rattle.cred_state.proofs.state.State.take_hold.Goals as goal
 
@@ -20,7 +20,7 @@ invariant_of-self-in_err-take c = rw c.in_err-take.ensures.err (kept_spare c.sel
 pub invariant_of-self-2 : goal.invariant_of-self-2
 invariant_of-self-2 c =
     let t = c.self.inside in
-    let s = state_of (as_parts t.tasks t.broadcasts t.files t.holds t.prepared t.dump t.infos) t.master.slots t.slots in
+    let s = seen_state t in
     let used = rw (← c.self.view_is) at c.requires in
     rw c.in_ok-take.ensures.ok (
       kept_more c.self.invariant.0 c.in_ok-reserve.ensures.ok c.add.ensures.held c.add.ensures.table (in_use-hold s _) refl

@@ -1,11 +1,11 @@
-use Rattle.cred_tables.specs.Kept.{as_parts, state_of}
+use Rattle.cred_state.proofs.Seen.{seen_state}
 use Rattle.cred_state.proofs.Returns.{held_put}
 use Rattle.cred_state.proofs.state.State.take_hold_back.Goals as goal
 
 pub invariant_of-self : goal.invariant_of-self
 invariant_of-self c =
     let t = c.self.inside in
-    let s = state_of (as_parts t.tasks t.broadcasts t.files t.holds t.prepared t.dump t.infos) t.master.slots t.slots in
+    let s = seen_state t in
     let apart = rw (← c.self.view_is) at c.requires.apart in
     rw c.give_back.ensures.rest.1 (
       c.self.invariant.0,

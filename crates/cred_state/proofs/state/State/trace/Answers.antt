@@ -2,7 +2,8 @@ use Rattle.std.proofs.Common.{Bool, cond, sym, ap, ◌∙◌}
 use Rattle.cred_event.specs.declared.answer.Answer.TheVariants.{Done, Eperm}
 use Rattle.cred_model.specs.Script.{reaches}
 use Rattle.cred_model.specs.State.{Hold, hold_of}
-use Rattle.cred_tables.specs.Kept.{cred_under, as_parts, seen_in, state_of}
+use Rattle.cred_tables.specs.Kept.{cred_under, seen_in}
+use Rattle.cred_state.proofs.Seen.{seen_state}
 use Rattle.cred_state.proofs.Reading.{is_found}
 use Rattle.cred_state.proofs.Standing.{held-in_use}
 use Rattle.cred_state.proofs.Traces.{trace_no_other, trace_no_own, trace_no_receiver, trace_no_sender, traces}
@@ -33,15 +34,13 @@ read_seen-seen-requires-clause-used c =
 pub returns-in_default-clause-made : goal.returns-in_default-clause-made
 returns-in_default-clause-made c =
     let t = c.self.inside in
-    let s = state_of (as_parts t.tasks t.broadcasts t.files t.holds t.prepared t.dump t.infos) t.master.slots
-    t.slots in
+    let s = seen_state t in
     rw (← c.self.view_is) (trace_no_sender c.args.script.now s c.args.from c.args.hold c.args.to c.args.target c.args.mode c.in_default.ensures)
 
 pub returns-in_default-process_of-clause-made : goal.returns-in_default-process_of-clause-made
 returns-in_default-process_of-clause-made c =
     let t = c.self.inside in
-    let s = state_of (as_parts t.tasks t.broadcasts t.files t.holds t.prepared t.dump t.infos) t.master.slots
-    t.slots in
+    let s = seen_state t in
     rw (← c.self.view_is)
     (trace_no_receiver c.args.script.now s c.args.from c.args.hold c.args.to c.args.target c.args.mode
     c.in-Some.sender c.in-Some.ensures c.in_default-process_of.ensures)
@@ -49,8 +48,7 @@ returns-in_default-process_of-clause-made c =
 pub returns-in_default-held-clause-made : goal.returns-in_default-held-clause-made
 returns-in_default-held-clause-made c =
     let t = c.self.inside in
-    let s = state_of (as_parts t.tasks t.broadcasts t.files t.holds t.prepared t.dump t.infos) t.master.slots
-    t.slots in
+    let s = seen_state t in
     rw (← c.self.view_is)
     (trace_no_own c.args.script.now s c.args.from c.args.hold c.args.to c.args.target c.args.mode
     c.in-Some.sender c.in-Some.ensures c.in-Some-process_of.receiver c.in-Some-process_of.ensures
@@ -59,8 +57,7 @@ returns-in_default-held-clause-made c =
 pub returns-in_default-held-2-clause-made : goal.returns-in_default-held-2-clause-made
 returns-in_default-held-2-clause-made c =
     let t = c.self.inside in
-    let s = state_of (as_parts t.tasks t.broadcasts t.files t.holds t.prepared t.dump t.infos) t.master.slots
-    t.slots in
+    let s = seen_state t in
     rw (← c.self.view_is)
     (trace_no_other c.args.script.now s c.args.from c.args.hold c.args.to c.args.target c.args.mode
     c.in-Some.sender c.in-Some.ensures c.in-Some-process_of.receiver c.in-Some-process_of.ensures
@@ -70,8 +67,7 @@ returns-in_default-held-2-clause-made c =
 pub returns-then-may_trace_by-clause-made : goal.returns-then-may_trace_by-clause-made
 returns-then-may_trace_by-clause-made c =
     let t = c.self.inside in
-    let s = state_of (as_parts t.tasks t.broadcasts t.files t.holds t.prepared t.dump t.infos) t.master.slots
-    t.slots in
+    let s = seen_state t in
     let own = rw (← c.self.view_is) at (sym c.in-Some-held.ensures) in
     let other = rw (← c.self.view_is) at (sym c.in-Some-held-2.ensures) in
     let asker = rw (← c.self.view_is) at c.read_seen-asker.ensures.seen in
@@ -91,8 +87,7 @@ returns-then-may_trace_by-clause-made c =
 pub returns-else-may_trace_by-clause-made : goal.returns-else-may_trace_by-clause-made
 returns-else-may_trace_by-clause-made c =
     let t = c.self.inside in
-    let s = state_of (as_parts t.tasks t.broadcasts t.files t.holds t.prepared t.dump t.infos) t.master.slots
-    t.slots in
+    let s = seen_state t in
     let own = rw (← c.self.view_is) at (sym c.in-Some-held.ensures) in
     let other = rw (← c.self.view_is) at (sym c.in-Some-held-2.ensures) in
     let asker = rw (← c.self.view_is) at c.read_seen-asker.ensures.seen in
