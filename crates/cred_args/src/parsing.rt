@@ -1,5 +1,5 @@
 //! Reading the words by clap.
-ghost use Rattle.std.specs.Prelude.{◌≡◌, IfOk, map, option_map, string_bytes, codes};
+ghost use Rattle.std.specs.Prelude.{◌≡◌, true, IfOk, OnErr, map, option_map, string_bytes, codes};
 ghost use Rattle.std.specs.List.{list_all};
 ghost use Rattle.clap.specs.Words.{first_value, found_of};
 ghost use Rattle.cred_args.specs.Line.{Finds};
@@ -29,10 +29,13 @@ pub struct Positionals<'a> {
 ///
 /// # Errors
 ///
-/// `NoMemory` if an allocation of the parse fails.
+/// `NoMemory` if an allocation of the parse fails, which is made only where each word is a plain
+/// one.
 pub fn parse<'a>(alloc: Global, words: &'a [String]) -> Result<Option<Positionals<'a>>, NoMemory>
-    ensures { IfOk result (λ given. option_map words_seen given
+    ensures value { IfOk result (λ given. option_map words_seen given
         ≡ positionals (map string_bytes words.now)) }
+    ensures memory { OnErr result
+        (list_all spec.is_plain (map string_bytes words.now) ≡ true) }
 {
     // clap would take a word that begins with `-` for a flag, and `--` for the end of flags.
     if !are_plain(words) {

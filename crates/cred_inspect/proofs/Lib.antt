@@ -3,3 +3,5 @@ pub mod Operands
 pub mod Refused
 pub mod ReportLine
 pub mod Verdicts
+pub mod OneLine
+pub mod OneSpelling

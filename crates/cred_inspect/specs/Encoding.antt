@@ -1,5 +1,5 @@
 -- What is written of the text of a file's capabilities.
-use Rattle.std.specs.Prelude.{◌≡◌, ℕ, List, ◌++◌, codes, decimal}
+use Rattle.std.specs.Prelude.{◌≡◌, ◌<◌, ℕ, List, ◌++◌, codes, decimal, All}
 use Rattle.std.specs.declared.option.Option.{Option}
 use Rattle.hex.specs.Hex.{encode_lower}
 use Rattle.cred_rules.specs.Attribute.{Attribute, Spells, IsCanonical}
@@ -14,10 +14,11 @@ abbrev pub IsCapText : List ℕ → Type 0
 IsCapText text = (a : Attribute) × TextSays text a
 
 -- the bytes are those that setxattr(2) takes for this attribute: every bit that spells nothing is
--- zero
+-- zero, and each number is a byte
 pub record AreBytesOf (a : Attribute) (bytes : List ℕ) : Type 0 where
   pub spelled : Spells bytes a
   pub canonical : IsCanonical bytes
+  pub each : All (λ byte. byte < 256) bytes
 
 -- the line of the bytes of an attribute, in hexadecimal digits
 abbrev pub IsLineOf : Attribute → List ℕ → Type 0

@@ -4,3 +4,4 @@ pub mod Operands
 pub mod Decoding
 pub mod Encoding
 pub mod Records
+pub mod Laws

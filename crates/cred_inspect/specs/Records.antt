@@ -1,5 +1,5 @@
 -- What is written of the bytes of a record of capset(2).
-use Rattle.std.specs.Prelude.{◌≡◌, ℕ, List, ◌++◌, codes, decimal}
+use Rattle.std.specs.Prelude.{◌≡◌, ◌<◌, ℕ, List, ◌++◌, codes, decimal, All}
 use Rattle.std.specs.declared.option.Option.{Option}
 use Rattle.hex.specs.Hex.{encode_lower}
 use Rattle.cred_report.specs.Numbers.{set_text}
@@ -18,10 +18,12 @@ IsRecord bytes = (d : CapData) × SpellsData bytes d
 abbrev pub as_version_3 : CapData → CapData
 as_version_3 d = record d { version = 3 }
 
--- the bytes are those that capset(2) takes for what this says, by a record of version 3
+-- the bytes are those that capset(2) takes for what this says, by a record of version 3: each
+-- number is a byte
 pub record AreBytesAs3 (d : CapData) (bytes : List ℕ) : Type 0 where
   pub spelled : SpellsData bytes (as_version_3 d)
   pub canonical : IsCanonicalData bytes
+  pub each : All (λ byte. byte < 256) bytes
 
 -- of what a record says, and of the bytes that say it by version 3
 abbrev pub record_text : CapData → List ℕ → List ℕ

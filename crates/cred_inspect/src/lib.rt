@@ -8,6 +8,7 @@ mod auditing;
 mod decoding;
 mod digits;
 mod encoding;
+pub mod laws;
 mod parts;
 mod records;
 

@@ -1,6 +1,6 @@
 -- The words of the command line.
-use Rattle.std.specs.Prelude.{ℕ, String, List, length, map, codes, string_bytes, Some, None}
-use Rattle.std.specs.Prelude.{if◌then◌else◌, nat_lt}
+use Rattle.std.specs.Prelude.{ℕ, Bool, true, false, not, String, List, length, map, codes}
+use Rattle.std.specs.Prelude.{string_bytes, Some, None, if◌then◌else◌, nat_lt}
 use Rattle.std.specs.declared.option.Option.{Option}
 use Rattle.std.specs.Option.{option_map, option_and_then}
 use Rattle.std.specs.Str.{bytes_eq}
@@ -42,10 +42,24 @@ with_operand word operand =
     else if bytes_eq word (codes "capdata") then option_map Capdata (bytes_of operand)
     else None
 
+-- memory is needed for an operand: to read one in hexadecimal, and to keep a text that is not too
+-- long
+abbrev pub needs_memory : List ℕ → List ℕ → Bool
+needs_memory word operand =
+    if bytes_eq word (codes "gen") then false
+    else if bytes_eq word (codes "decode") then true
+    else if bytes_eq word (codes "encode") then not (nat_lt TEXT_LIMIT (length operand))
+    else bytes_eq word (codes "capdata")
+
 -- the command that a word is, with its operand if it has one
 abbrev pub command_by : WordsGiven → Option Command
 command_by (word, None) = alone word
 command_by (word, Some operand) = with_operand word operand
+
+-- memory is needed for the operand that a word has
+abbrev pub needs_memory_by : WordsGiven → Bool
+needs_memory_by (word, None) = false
+needs_memory_by (word, Some operand) = needs_memory word operand
 
 -- The command that the words are, if they are one: one word or two, none of which is empty or
 -- begins with `-`.

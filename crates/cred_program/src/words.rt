@@ -1,7 +1,8 @@
 //! The words of the command line.
-ghost use Rattle.std.specs.Prelude.{◌≡◌, IfOk, IfSome};
+ghost use Rattle.std.specs.Prelude.{◌≡◌, ◌≤◌, true, length, IfOk, IfSome, OnErr};
+ghost use Rattle.std.specs.List.{list_all};
 ghost use Rattle.std.specs.Option.{option_map};
-ghost use Rattle.cred_args.specs.Positionals.{words_seen};
+ghost use Rattle.cred_args.specs.Positionals.{is_plain, words_seen};
 ghost use Rattle.cred_generate.specs.Generated.{CALLS};
 ghost use Rattle.cred_spelling.specs.Spellings.{bytes_of, number_within};
 ghost use Rattle.cred_commands.specs.Summing.{IsCount};
@@ -43,10 +44,12 @@ const TEXT_LIMIT: usize = 4096;
 ///
 /// # Errors
 ///
-/// `NoMemory` if an allocation of the parse fails, or that of the operand.
+/// `NoMemory` if an allocation of the parse fails, or that of the operand. None is made where a
+/// word is empty or begins with `-`.
 pub fn command_of(alloc: Global, words: &[String]) -> Result<Option<Command>, NoMemory>
     ensures command { IfOk result (λ command. command ≡ command_of (texts words.now)) }
     ensures count { IfOk result (λ command. IfSome command HasCount) }
+    ensures memory { OnErr result (list_all is_plain (texts words.now) ≡ true) }
 {
     match parse(alloc, words)? {
         Some(given) => command_by(alloc, given),
@@ -58,6 +61,7 @@ pub fn command_of(alloc: Global, words: &[String]) -> Result<Option<Command>, No
 fn command_by(alloc: Global, given: Positionals<'_>) -> Result<Option<Command>, NoMemory>
     ensures command { IfOk result (λ command. command ≡ spec.command_by (words_seen given.entry)) }
     ensures count { IfOk result (λ command. IfSome command HasCount) }
+    ensures memory { OnErr result (spec.needs_memory_by (words_seen given.entry) ≡ true) }
 {
     match given.operand {
         Some(operand) => with_operand(alloc, given.command, operand.as_bytes()),
@@ -86,6 +90,7 @@ fn with_operand(alloc: Global, word: &str, operand: &[u8]) -> Result<Option<Comm
     ensures command { IfOk result (λ command.
         command ≡ spec.with_operand word.now operand.now) }
     ensures count { IfOk result (λ command. IfSome command HasCount) }
+    ensures memory { OnErr result (spec.needs_memory word.now operand.now ≡ true) }
 {
     if word == "gen" {
         Ok(generated(operand))
@@ -125,6 +130,7 @@ fn encoded(alloc: Global, operand: &[u8]) -> Result<Option<Command>, NoMemory>
     ensures command { IfOk result (λ command.
         command ≡ option_map Command.Encode (text_within operand.now)) }
     ensures count { IfOk result (λ command. IfSome command HasCount) }
+    ensures memory { OnErr result (length operand.now ≤ spec.TEXT_LIMIT) }
 {
     if operand.len() > TEXT_LIMIT {
         return Ok(None);
