@@ -5,3 +5,4 @@ pub mod Pushed
 pub mod Kept
 pub mod Told
 pub mod Summed
+pub mod Writes

@@ -1,3 +1,4 @@
 pub mod Order
 pub mod Summing
 pub mod Sequences
+pub mod Writing

@@ -19,9 +19,8 @@ WritesSequenceStart script before after =
     (journal : List Entry) × IsSequence script journal
     × AppendsPrefix before after (text script journal)
 
--- the text of the first of these entries was written, and the others are kept
-pub record HandsOver
-    (script : Script) (had has : List Entry) (before after : Option (List ℕ)) : Type 0 where
-  pub those : List Entry
+-- The first bytes of this text were written, and the others are kept.
+pub record HandsOver (had has : List ℕ) (before after : Option (List ℕ)) : Type 0 where
+  pub those : List ℕ
   pub are : had ≡ those ++ has
-  pub written : Appends before after (text script those)
+  pub written : Appends before after those

@@ -4,7 +4,9 @@
 
 mod line;
 mod ordered;
+mod straight;
 mod summing;
+mod written;
 
 pub use ordered::read_and_run;
 pub use summing::run_gen;

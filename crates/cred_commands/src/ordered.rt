@@ -1,52 +1,67 @@
-//! Running a script's lines in order, and writing the entries of each as they come: no journal is
-//! kept.
-ghost use Rattle.std.specs.Prelude.{◌≡◌, ◌⊎◌, [], true, OnOk, OnErr};
+//! Running a script's lines in order, and writing the entries of each as they are made: no journal
+//! is kept.
+ghost use Rattle.std.specs.Prelude.{◌≡◌, ◌<◌, ◌⊎◌, [], true, OnOk, OnErr};
+ghost use Rattle.std.specs.Io.KnownBytes.{Appends};
 ghost use Rattle.cred_ids.specs.Limits.{BYTE_LIMIT};
 ghost use Rattle.cred_model.specs.Journal.{IsSequence};
 ghost use Rattle.cred_model.specs.State.{opening};
 ghost use Rattle.cred_io.specs.Causes.{CountsFaults};
 ghost use Rattle.cred_io.specs.Ends.{AppendsPrefix};
-ghost use Rattle.cred_report.specs.Text.{text};
 ghost use Rattle.cred_said.specs.Ends.{IsForText};
 ghost use Rattle.cred_said.specs.Leaves.{IsReading, IsWriting, LeavesReport};
 ghost use Rattle.cred_commands.specs.Sequences.{AppendsSequence, WritesSequenceStart, HandsOver};
 
-use crate::line::run_line;
-use cred_event::Entry;
+use crate::straight::write_line;
+use cred_buffer::ReportBuffer;
 use cred_hold::Cells;
-use cred_io::{Sink, SinkRefusal, Source};
-use cred_report::Pen;
-use cred_said::{Status, finish, read_script, write_entries, write_last};
+use cred_io::{Sink, SinkRefusal, Source, write_all};
+use cred_said::{Status, finish, read_script};
 use cred_script::Script;
 use cred_state::State;
 use std::alloc::Global;
 use std::mem::forget;
 
-/// Writes the entries and drops them, as far as they fill whole writes. The others stay, and so
-/// does the list's room.
-fn write_some<K: Sink>(
-    sink: &mut K,
-    pen: &mut Pen,
-    script: &Script,
-    entries: &mut Vec<Entry>,
-) -> Result<(), SinkRefusal>
-    ensures ok { OnOk result (HandsOver script.now entries.old.items entries.new.items
-        (K.written sink.old) (K.written sink.new)) }
-    ensures err { OnErr result (AppendsPrefix (K.written sink.old) (K.written sink.new)
-        (text script.now entries.old.items)) }
+/// How many bytes go into one write, at least.
+const BYTES_A_WRITE: usize = 64 * 1024;
+
+/// How long a text is that is written at once: for a sink whose writes are counted, that of each
+/// line is.
+fn bytes_a_write<K: Sink>(sink: &K) -> usize
+    ensures { 0 < result }
+{
+    if sink.pieces_a_write() > 1 {
+        BYTES_A_WRITE
+    } else {
+        1
+    }
+}
+
+/// Writes the text and drops it, where it is long enough for a write. Else it stays.
+fn write_some<K: Sink>(sink: &mut K, out: &mut ReportBuffer) -> Result<(), SinkRefusal>
+    ensures ok { OnOk result
+        (HandsOver out.old out.new (K.written sink.old) (K.written sink.new)) }
+    ensures err { OnErr result (AppendsPrefix (K.written sink.old) (K.written sink.new) out.old) }
     ensures cause { CountsFaults (result ≡ Err SinkRefusal.Failed)
         (K.faults sink.old) (K.faults sink.new) }
 {
-    let together = sink.pieces_a_write();
-    if entries.len() < together {
+    if out.len() < bytes_a_write(sink) {
         return Ok(());
     }
-    let whole = entries.len() - entries.len() % together;
-    let mut rest = entries.split_off(whole)?;
-    write_entries(sink, pen, script, entries)?;
-    entries.clear();
-    entries.append(&mut rest)?;
+    write_all(sink, out.items())?;
+    out.clear();
     Ok(())
+}
+
+/// Writes the last of a text, and hands it on: what a buffer keeps back can still be lost.
+fn write_last<K: Sink>(sink: &mut K, out: &ReportBuffer) -> Result<(), SinkRefusal>
+    ensures ok { OnOk result (Appends (K.written sink.old) (K.written sink.new) out.now) }
+    ensures err { OnErr result (AppendsPrefix (K.written sink.old) (K.written sink.new) out.now) }
+    ensures handed_on { OnOk result (K.handed_on sink.new ≡ true) }
+    ensures cause { CountsFaults (result ≡ Err SinkRefusal.Failed)
+        (K.faults sink.old) (K.faults sink.new) }
+{
+    write_all(sink, out.items())?;
+    sink.flush()
 }
 
 /// Runs the script's lines in order, on the state before its first event, and writes the text of
@@ -73,17 +88,19 @@ fn write_lines<K: Sink>(
     ensures cause { CountsFaults (result ≡ Err SinkRefusal.Failed)
         (K.faults sink.old) (K.faults sink.new) }
 {
-    let mut pen = Pen::new(alloc);
+    let Ok(mut out) = ReportBuffer::new(alloc) else {
+        return Err(SinkRefusal::Memory);
+    };
     let mut entries = Vec::new(alloc);
     let mut past = 0;
     'lines: while past < script.lines() {
-        let Ok(()) = run_line(state, cells, script, past, &mut entries) else {
+        let Ok(()) = write_line(state, cells, script, past, &mut entries, &mut out) else {
             return Err(SinkRefusal::Memory);
         };
         past += 1;
-        write_some(sink, &mut pen, script, &mut entries)?;
+        write_some(sink, &mut out)?;
     }
-    write_last(sink, &mut pen, script, &entries)
+    write_last(sink, &out)
 }
 
 /// The same, on a state of its own: to own one is expensive to prove, so nothing else is done here.

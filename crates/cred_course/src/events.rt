@@ -63,8 +63,9 @@ pub(crate) fn event_in(
     })
 }
 
-/// The label of what a line holds.
-fn hold_label(line: u32) -> u32
+/// The label of what a line holds, which is its first one.
+#[inline(always)]
+pub fn hold_label(line: u32) -> u32
     requires { line ≤ LINE_LIMIT }
     ensures { result ≡ spec.hold_label line }
 {
@@ -72,7 +73,8 @@ fn hold_label(line: u32) -> u32
 }
 
 /// The label of the new credential that a line prepares.
-fn new_label(line: u32) -> u32
+#[inline(always)]
+pub fn new_label(line: u32) -> u32
     requires { line ≤ LINE_LIMIT }
     ensures { result ≡ spec.new_label line }
 {

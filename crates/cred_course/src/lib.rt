@@ -21,4 +21,6 @@ mod stages;
 
 pub use course::Course;
 pub use cursor::{cursor_after, first_cursor, next_event};
+pub use events::{hold_label, new_label};
 pub use lane_cursors::Cursors;
+pub use stages::some_wait;

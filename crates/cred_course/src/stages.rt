@@ -61,7 +61,8 @@ pub(crate) fn is_stale(stage: Option<Stage>, answer: &Answer) -> bool
 }
 
 /// Whether the answer says that some threads still wait.
-fn some_wait(answer: &Answer) -> bool
+#[inline(always)]
+pub fn some_wait(answer: &Answer) -> bool
     ensures { result ≡ spec.some_wait answer.now }
 {
     match answer {

@@ -11,7 +11,7 @@ use Rattle.cred_model.specs.Step.{step}
 use Rattle.cred_model.specs.Journal.{SoFar}
 use Rattle.cred_model.proofs.Lists.{All-at, slice_get_at}
 use Rattle.cred_grammar.specs.Grammar.{script_of}
-use Rattle.cred_laws.specs.Journals.{state_at}
+use Rattle.cred_laws.specs.States.{state_at}
 use Rattle.cred_laws.proofs.AnsweredLaws.{so_far_is_answered}
 use Rattle.cred_laws.proofs.States.{step_at}
 use Rattle.cred_sound.proofs.Few.{few_after}

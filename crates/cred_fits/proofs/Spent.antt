@@ -23,7 +23,7 @@ use Rattle.cred_model.proofs.Courses.{after_line}
 use Rattle.cred_model.proofs.Lines.{answers_of-push_same, answers_of-push_other}
 use Rattle.cred_model.proofs.Lists.{slice_get_at}
 use Rattle.cred_script.specs.Lines.{line_at}
-use Rattle.cred_laws.specs.Journals.{state_at}
+use Rattle.cred_laws.specs.States.{state_at}
 use Rattle.cred_laws.proofs.States.{step_at}
 use Rattle.cred_sound.proofs.Parts.{CredsChange, SameCreds, Seals, sealed_cred}
 use Rattle.cred_sound.proofs.Events.{changes}

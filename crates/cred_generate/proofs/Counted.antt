@@ -10,7 +10,7 @@ use Rattle.cred_model.specs.Script.{Script}
 use Rattle.cred_model.specs.State.{State}
 use Rattle.cred_model.specs.Step.{step}
 use Rattle.cred_model.proofs.Lists.{slice_get_at}
-use Rattle.cred_laws.specs.Journals.{state_at}
+use Rattle.cred_laws.specs.States.{state_at}
 use Rattle.cred_laws.proofs.States.{step_at}
 use Rattle.cred_generate.specs.Sealed.{count_with, count_sealed}
 use Rattle.cred_generate.proofs.Growth.{tells}

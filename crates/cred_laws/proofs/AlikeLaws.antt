@@ -22,7 +22,8 @@ use Rattle.cred_sound.proofs.Events.{changes}
 use Rattle.cred_sound.proofs.Parts.{begun}
 use Rattle.cred_sound.proofs.Sound.{sound_after}
 use Rattle.cred_laws.specs.Broadcast.{AllHave, Completes, call_kind, three_ids, IsAlike, stepping}
-use Rattle.cred_laws.specs.Journals.{state_at, RunsThrough, StepAlike, KeepsAlike}
+use Rattle.cred_laws.specs.States.{state_at}
+use Rattle.cred_laws.specs.Journals.{RunsThrough, StepAlike, KeepsAlike}
 use Rattle.cred_laws.specs.Made.{AreMade}
 use Rattle.cred_laws.proofs.BegunLaws.{Begun, began, begun_followed, begun_shown}
 use Rattle.cred_laws.proofs.BroadcastLaws.{completed, mapped}

@@ -34,7 +34,8 @@ use Rattle.cred_sound.proofs.Parts.{CredsChange, PreparedChange, SamePrepared, P
 use Rattle.cred_sound.proofs.Events.{changes}
 use Rattle.cred_sound.proofs.Sound.{sound_after}
 use Rattle.cred_laws.specs.Files.{IsLastChange, alters, has_altered}
-use Rattle.cred_laws.specs.Journals.{state_at, IsFileOf}
+use Rattle.cred_laws.specs.States.{state_at}
+use Rattle.cred_laws.specs.Files.{IsFileOf}
 use Rattle.cred_laws.specs.Made.{IsMadeFrom, AreMadeFrom}
 use Rattle.cred_laws.proofs.Cases.{some_case}
 use Rattle.cred_laws.proofs.MadeLaws.{bases_sealed, same_numbered, the_one}

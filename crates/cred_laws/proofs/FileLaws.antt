@@ -1,9 +1,10 @@
 -- What an event makes of a file.
-use Rattle.std.proofs.Common.{◌≡◌, ◌≢◌, ◌==◌, ℕ, zero, suc, List, [], ◌∷◌, slice_get, slice_set, Option, Some, None, Result, Ok, Err, Bool, true, false, not}
+use Rattle.std.proofs.Common.{◌≡◌, ◌≢◌, ◌==◌, ℕ, zero, suc, List, [], ◌∷◌, length, slice_get, slice_set, Option, Some, None, Result, Ok, Err, Bool, true, false, not}
 use Rattle.std.proofs.Common.{cond, refl, sym, ap, ◌∙◌, subst}
 use Rattle.std.specs.Option.{IfSome}
 use Rattle.std.specs.Int.Bits.{bit_and, and_zero_r}
 use Rattle.std.proofs.lemmas.Bool.{eqb-true, eqb-false}
+use Rattle.std.proofs.lemmas.List.{length-set}
 use Rattle.std.proofs.lemmas.Nat.{and_assoc}
 use Rattle.cred_ids.specs.declared.arg.Arg.{Arg}
 use Rattle.cred_record.specs.Credential.{Credential}
@@ -25,7 +26,7 @@ use Rattle.cred_model.specs.State.{State, held_by}
 use Rattle.cred_model.specs.Step.{done, outcome, step}
 use Rattle.cred_sound.proofs.Events.{changes}
 use Rattle.cred_sound.proofs.Parts.{InfosChange, SameInfos, Writes}
-use Rattle.cred_laws.specs.Files.{FilesChangeByCalls, IsStripped, HasStripped, resets, ChownStrips, StaysStripped}
+use Rattle.cred_laws.specs.Files.{FilesChangeByCalls, FilesAreAsMany, IsStripped, HasStripped, resets, ChownStrips, StaysStripped}
 use Rattle.cred_laws.proofs.Cases.{some_case}
 use Rattle.cred_laws.proofs.Unexecuted.{answer_of, answers_settled}
 
@@ -68,6 +69,13 @@ changed_so s event made place old new (Writes at held before after on there rule
 pub files_change_by_calls : FilesChangeByCalls
 files_change_by_calls script s line event place old new was is differ =
     changed_so s event (step script s line event) place old new (changes script s line event).infos was is differ
+
+as_many : (s : State) (event : Event) (made : Answer × State) → InfosChange s event made → length made.1.infos ≡ length s.infos
+as_many s event made (SameInfos same) = ap length same
+as_many s event made (Writes at held before after on there ruled done now) = ap length now ∙ length-set s.infos at after
+
+pub files_are_as_many : FilesAreAsMany
+files_are_as_many script s line event = as_many s event (step script s line event) (changes script s line event).infos
 
 -- ---- what a chown takes away
 

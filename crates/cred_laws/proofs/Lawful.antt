@@ -33,14 +33,15 @@ use Rattle.cred_laws.specs.Overrides.{IsOverriding}
 use Rattle.cred_laws.specs.Permitted.{IsCreatedWith}
 use Rattle.cred_laws.specs.Permitted as permitted
 use Rattle.cred_laws.specs.Execve.{IsExecve}
-use Rattle.cred_laws.specs.Files.{HasStripped, resets}
+use Rattle.cred_laws.specs.Files.{IsFileOf, HasStripped, resets}
 use Rattle.cred_laws.specs.Made.{AreMadeFrom}
 use Rattle.cred_laws.specs.Raw.{IsRaw}
 use Rattle.cred_model.specs.FileChanges.{changed_file}
 use Rattle.cred_laws.specs.Trace.{IsOwn, AsksWithoutCap, HasThreads, IsAskedFor, IsExecuted}
-use Rattle.cred_laws.specs.Journals.{state_at, IsAlwaysSound, IsAlwaysMade, IsAlwaysValid, LooksIntoOwn, LeavesClear, StaysUndumpable, WritesUnusedSlots}
+use Rattle.cred_laws.specs.States.{state_at}
+use Rattle.cred_laws.specs.Journals.{IsAlwaysSound, IsAlwaysMade, IsAlwaysValid, LooksIntoOwn, LeavesClear, StaysUndumpable, WritesUnusedSlots}
 use Rattle.cred_laws.specs.Journals.{KeepsSealed, KeepsHeld, KeepsOpeners, KeepsPrepared, OverridesLeave, ExecvesByTheRule, GainsAsAnswered, CreatesTasks}
-use Rattle.cred_laws.specs.Journals.{CompletesForAll, JournalsAreLawful, IsFileOf, FilesStay, ChownsStrip, RawsLeave, RawsByTheRule}
+use Rattle.cred_laws.specs.Journals.{CompletesForAll, JournalsAreLawful, FilesStay, ChownsStrip, RawsLeave, RawsByTheRule}
 use Rattle.cred_laws.specs.Broadcast.{HasNamed, AllHave, Completes}
 use Rattle.cred_laws.proofs.AlikeLaws.{keeps_alike}
 use Rattle.cred_laws.proofs.BroadcastLaws.{calls_are_every_threads, followed_after}
@@ -52,7 +53,8 @@ use Rattle.cred_laws.proofs.PreparedLaws.{prepared_goes_on}
 use Rattle.cred_laws.proofs.MadeLaws.{made_after}
 use Rattle.cred_laws.proofs.ExecveLaws.{execve_of}
 use Rattle.cred_laws.proofs.AlteredLaws.{made_from_files}
-use Rattle.cred_laws.proofs.FileLaws.{files_change_by_calls, chown_strips, stays_stripped}
+use Rattle.cred_laws.proofs.ConfinedLaws.{stays_in_boxes, never_gains}
+use Rattle.cred_laws.proofs.FileLaws.{files_change_by_calls, files_are_as_many, chown_strips, stays_stripped}
 use Rattle.cred_laws.proofs.RawLaws.{raws_leave_others, raws_are_by_the_rule}
 use Rattle.cred_laws.proofs.PermittedLaws.{permitted_gains, new_tasks_are_created}
 use Rattle.cred_laws.proofs.ValidLaws.{valid_journal}
@@ -300,9 +302,19 @@ files_by script journal k place old new (Some entry) is answered was now differ 
     (both.0, answered ∙ both.1)
 files_by script journal k place old new None is answered was now differ = tt
 
+as_many_by : (script : Script) (journal : List Entry) (k : ℕ) (o : Option Entry) → slice_get journal k ≡ o
+    → IfSome o (λ _. length (state_at script journal (k + 1)).infos ≡ length (state_at script journal k).infos)
+as_many_by script journal k (Some entry) is =
+    let s = state_at script journal k in
+    ap (λ (t : State). length t.infos) (step_at script journal k entry is) ∙ files_are_as_many script s entry.line entry.event
+as_many_by script journal k None is = tt
+
 pub files_stay : (script : Script) (journal : List Entry) → IsAnswered script journal → FilesStay script journal
-files_stay script journal answered k place old new was now differ =
-    files_by script journal k place old new (slice_get journal k) refl (answered_at script journal answered k) was now differ
+files_stay script journal answered = record {
+  many = λ k. as_many_by script journal k (slice_get journal k) refl;
+  calls = λ k place old new was now differ.
+      files_by script journal k place old new (slice_get journal k) refl (answered_at script journal answered k) was now differ;
+}
 
 chowned_at : (script : Script) (journal : List Entry) (k place hold : ℕ) (owner group : Arg) (old : File) (entry : Entry) → slice_get journal k ≡ Some entry
     → entry.answer ≡ (step script (state_at script journal k) entry.line entry.event).0
@@ -382,4 +394,6 @@ lawful script journal answered = record {
   chowns = chowns_strip script journal answered;
   raws = raws_leave script journal;
   raw_rule = raws_by_the_rule script journal answered;
+  boxes = stays_in_boxes script journal answered;
+  never = never_gains script journal answered;
 }

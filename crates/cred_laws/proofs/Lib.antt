@@ -26,3 +26,4 @@ pub mod FileLaws
 pub mod RawLaws
 pub mod ValidLaws
 pub mod TraceLaws
+pub mod ConfinedLaws

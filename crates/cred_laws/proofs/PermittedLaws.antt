@@ -94,7 +94,7 @@ acts_same tasks creds acting numbers task =
 -- ---- a task with a new credential
 
 -- the credential under the number of a task's current one is that one
-under_number : (s : State) (task : ℕ) (c : Numbered) → current_of s task ≡ Some c → numbered s.creds c.number ≡ Some c
+pub under_number : (s : State) (task : ℕ) (c : Numbered) → current_of s task ≡ Some c → numbered s.creds c.number ≡ Some c
 under_number s task c is =
     let at = current_is s task c is in ap (numbered s.creds) at.number ∙ at_owner s task c at is
 
@@ -168,7 +168,7 @@ updated_goes s event made acting task slot owner ends before after c t false tes
     inl (cc)
 
 -- the number of the acting task's old credential, as its owner has it and as it is found
-owner_current : (s : State) (acting : ℕ) (owner : Task) (old : Numbered) → task_of s acting ≡ Some owner
+pub owner_current : (s : State) (acting : ℕ) (owner : Task) (old : Numbered) → task_of s acting ≡ Some owner
     → current_of s acting ≡ Some old → owner.current ≡ old.number
 owner_current s acting owner old found current =
     let at = current_is s acting old current in

@@ -10,7 +10,7 @@ use Rattle.cred_model.specs.Script.{Script}
 use Rattle.cred_model.specs.Step.{step}
 use Rattle.cred_model.specs.Journal.{replay, IsAnswered}
 use Rattle.cred_model.proofs.Journals.{replay-push}
-use Rattle.cred_laws.specs.Journals.{state_at}
+use Rattle.cred_laws.specs.States.{state_at}
 
 -- the state after one entry more is the step's
 pub step_at : (script : Script) (journal : List Entry) (k : ℕ) (entry : Entry) → slice_get journal k ≡ Some entry

@@ -1,8 +1,9 @@
 -- What a run makes of the files that its script declares (chown(2), chmod(2), capabilities(7),
 -- "File capabilities"), and which file, as it stood when, an execve was of.
-use Rattle.std.specs.Prelude.{◌≡◌, ◌≢◌, ℕ, Bool, true, false, ◌==◌, ◌&&◌, ◌<◌, List, slice_get}
-use Rattle.std.specs.Prelude.{Some}
+use Rattle.std.specs.Prelude.{◌≡◌, ◌≢◌, ℕ, Bool, true, false, ◌==◌, ◌&&◌, ◌<◌, List, length}
+use Rattle.std.specs.Prelude.{Some, slice_get}
 use Rattle.std.specs.Prelude.{None, IfSome}
+use Rattle.std.specs.declared.option.Option.{Option}
 use Rattle.cred_ids.specs.declared.arg.Arg.{Arg}
 use Rattle.cred_record.specs.File.{File}
 use Rattle.cred_rules.specs.Files.{strips}
@@ -14,9 +15,11 @@ use Rattle.cred_event.specs.declared.event.Event.{Event}
 use Rattle.cred_event.specs.declared.event.Event.TheVariants.{Alter, Chown, Chmod, SetAttr}
 use Rattle.cred_event.specs.Answers.{is_ok}
 use Rattle.cred_model.specs.FileChanges.{changed_file}
+use Rattle.cred_model.specs.Named.{change_files}
 use Rattle.cred_model.specs.Script.{Script}
-use Rattle.cred_model.specs.State.{State}
+use Rattle.cred_model.specs.State.{State, info_of}
 use Rattle.cred_model.specs.Step.{step}
+use Rattle.cred_laws.specs.States.{state_at}
 
 -- ---- a file changes by three calls alone
 
@@ -28,6 +31,12 @@ FilesChangeByCalls =
     → slice_get s.infos place ≡ Some old
     → slice_get (step script s line event).1.infos place ≡ Some new → old ≢ new
     → (changed_file event ≡ Some place) × ((step script s line event).0 ≡ Done)
+
+-- No event adds a file, or takes one away.
+abbrev pub FilesAreAsMany : Type 0
+FilesAreAsMany =
+    (script : Script) (s : State) (line : ℕ) (event : Event)
+    → length (step script s line event).1.infos ≡ length s.infos
 
 -- ---- what a chown takes away
 
@@ -84,3 +93,10 @@ pub record IsLastChange (journal : List Entry) (upto label : ℕ) (change : Chan
   pub done : is_ok entry.answer ≡ true
   pub last : (i : ℕ) → at < i → i < upto
       → IfSome (slice_get journal i) (λ later. has_altered label later ≡ false)
+
+-- Before entry k the label was changed last by this change, and this is the file that the change
+-- names, as it stood then.
+abbrev pub IsFileOf : Script → List Entry → ℕ → ℕ → Change → Option File → Type 0
+IsFileOf script journal k label change file =
+    (at : ℕ) × IsLastChange journal k label change at
+    × (info_of (state_at script journal at).infos (change_files change) ≡ file)

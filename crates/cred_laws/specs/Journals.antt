@@ -30,17 +30,15 @@ use Rattle.cred_laws.specs.Held.{preparation_of, ends_label}
 use Rattle.cred_laws.specs.Made.{AreMade}
 use Rattle.cred_laws.specs.Overrides.{IsOverriding}
 use Rattle.cred_laws.specs.Execve.{IsExecve}
-use Rattle.cred_laws.specs.Files.{IsLastChange, HasStripped, resets}
+use Rattle.cred_laws.specs.States.{state_at}
+use Rattle.cred_laws.specs.Files.{IsFileOf, HasStripped, resets}
+use Rattle.cred_laws.specs.Confined.{StaysInBoxes, NeverGains}
 use Rattle.cred_laws.specs.Raw.{IsRaw}
 use Rattle.cred_laws.specs.Permitted.{GainsBy, IsCreatedWith}
 use Rattle.cred_laws.specs.Valid.{AreValid}
 use Rattle.cred_laws.specs.Trace.{IsOwn, AsksWithoutCap, HasThreads, IsAskedFor, IsExecuted}
 use Rattle.cred_laws.specs.Broadcast.{HasNamed, AllHave, Completes, call_kind, three_ids, IsAlike}
 use Rattle.cred_laws.specs.Broadcast.{stepping}
-
--- the state after the first k entries
-abbrev pub state_at : Script → List Entry → ℕ → State
-state_at script journal k = replay script (take k journal)
 
 -- Each state is sound.
 abbrev pub IsAlwaysSound : Script → List Entry → Type 0
@@ -115,13 +113,6 @@ GainsAsAnswered script journal =
     → current_of (state_at script journal (k + 1)) task ≡ Some after
     → IfSome (slice_get journal k) (λ entry. GainsBy entry.answer before after)
 
--- Before entry k the label was changed last by this change, and this is the file that the change
--- names, as it stood then.
-abbrev pub IsFileOf : Script → List Entry → ℕ → ℕ → Change → Option File → Type 0
-IsFileOf script journal k label change file =
-    (at : ℕ) × IsLastChange journal k label change at
-    × (info_of (state_at script journal at).infos (change_files change) ≡ file)
-
 -- An entry which answers that an execve is completed commits what the rule of execve makes of the
 -- task's credential and of the file, as that stood at the last change of the label, with the gains
 -- that it answers.
@@ -134,15 +125,16 @@ ExecvesByTheRule script journal =
     (state_at script journal (k + 1)))
     × IsFileOf script journal k x.prepared.label (Exec x.place) (Some x.file))
 
--- A file changes only by an entry of chown(2), chmod(2), or setxattr(2) or removexattr(2) of its
--- attribute, on that file, that isn't refused.
-abbrev pub FilesStay : Script → List Entry → Type 0
-FilesStay script journal =
-    (k place : ℕ) (old new : File)
-    → slice_get (state_at script journal k).infos place ≡ Some old
-    → slice_get (state_at script journal (k + 1)).infos place ≡ Some new → old ≢ new
-    → IfSome (slice_get journal k) (λ entry.
-    (changed_file entry.event ≡ Some place) × (entry.answer ≡ Done))
+-- An entry leaves as many files as there were, and a file changes only by one of chown(2), chmod(2),
+-- or setxattr(2) or removexattr(2) of its attribute, on that file, that isn't refused.
+pub record FilesStay (script : Script) (journal : List Entry) : Type 0 where
+  pub many : (k : ℕ) → IfSome (slice_get journal k) (λ _.
+      length (state_at script journal (k + 1)).infos ≡ length (state_at script journal k).infos)
+  pub calls : (k place : ℕ) (old new : File)
+      → slice_get (state_at script journal k).infos place ≡ Some old
+      → slice_get (state_at script journal (k + 1)).infos place ≡ Some new → old ≢ new
+      → IfSome (slice_get journal k) (λ entry.
+      (changed_file entry.event ≡ Some place) × (entry.answer ≡ Done))
 
 -- After an entry of chown(2) that isn't refused, and gives an owner or a group to an executable
 -- regular file, the file has no attribute and no set-user-ID bit, up to the next entry that sets
@@ -291,6 +283,8 @@ pub record IsLawful (script : Script) (journal : List Entry) : Type 0 where
   pub chowns : ChownsStrip script journal
   pub raws : RawsLeave script journal
   pub raw_rule : RawsByTheRule script journal
+  pub boxes : StaysInBoxes script journal
+  pub never : NeverGains script journal
 
 -- They hold of every journal whose entries have the answers that the rules give.
 abbrev pub JournalsAreLawful : Type 0

@@ -3,10 +3,12 @@ pub mod Slots
 pub mod Held
 pub mod Made
 pub mod Execve
+pub mod States
 pub mod Files
 pub mod Raw
 pub mod Overrides
 pub mod Permitted
+pub mod Confined
 pub mod Valid
 pub mod Trace
 pub mod Answered

@@ -1,5 +1,6 @@
 //! What a run makes of the files that its script declares.
-ghost use Rattle.cred_laws.specs.Files.{FilesChangeByCalls, ChownStrips, StaysStripped};
+ghost use Rattle.cred_laws.specs.Files.{FilesAreAsMany, FilesChangeByCalls, ChownStrips};
+ghost use Rattle.cred_laws.specs.Files.{StaysStripped};
 
 /// Where an event leaves a file otherwise than it was, it is chown(2), chmod(2), or setxattr(2) or
 /// removexattr(2) of its capability attribute, on that file, and isn't refused.
@@ -8,6 +9,12 @@ ghost use Rattle.cred_laws.specs.Files.{FilesChangeByCalls, ChownStrips, StaysSt
 #[tactic(auto, using(crate::proofs::FileLaws::files_change_by_calls))]
 pub fn files_change_by_calls()
     ensures { FilesChangeByCalls }
+{}
+
+/// No event adds a file to those of the script, or takes one away.
+#[tactic(auto, using(crate::proofs::FileLaws::files_are_as_many))]
+pub fn files_are_as_many()
+    ensures { FilesAreAsMany }
 {}
 
 /// A chown that isn't refused, and gives an owner or a group to an executable regular file, leaves

@@ -8,6 +8,7 @@
 pub mod answered;
 pub mod broadcast;
 pub mod calls;
+pub mod confined;
 pub mod execve;
 pub mod files;
 pub mod held;

@@ -1,17 +1,23 @@
 -- An id call that one thread makes for itself alone, and what refuses it.
-use Rattle.std.proofs.Common.{◌≡◌, ℕ, ◌==◌, not, Bool, true, false, List, find, is_some, length, Some, Ok, Err, refl, sym, ap, ◌∙◌}
+use Rattle.std.proofs.Common.{◌≡◌, ℕ, ◌==◌, not, Bool, true, false, List, find, is_some, length, Some, Result, Ok, Err, refl, sym, ap, ◌∙◌}
+use Rattle.std.specs.Result.{IfOk}
+use Rattle.std.proofs.lemmas.Result.{IfOk-weaker}
 use Rattle.cred_record.specs.Credential.{Credential}
 use Rattle.cred_record.specs.declared.id_call.IdCall.{IdCall}
-use Rattle.cred_record.specs.declared.refusal.Denial.TheVariants as denial
+use Rattle.cred_record.specs.declared.refusal.Refusal.{Refusal}
+use Rattle.cred_setid.specs.Becomes.{IsAnew}
 use Rattle.cred_rules.specs.SetId.{set_id}
 use Rattle.cred_event.specs.declared.answer.Answer.{Answer}
-use Rattle.cred_event.specs.declared.answer.Answer.TheVariants.{Sealed, Eperm, Einval}
+use Rattle.cred_event.specs.declared.answer.Answer.TheVariants.{Sealed}
 use Rattle.cred_model.specs.State.{State, Task, Broadcast, ProcessFlag, Numbered, numbered, task_of, broadcast_in}
 use Rattle.cred_model.specs.Dumpable.{differs, renewed}
 use Rattle.cred_model.specs.Broadcasts.{not_busy}
 use Rattle.cred_model.specs.Moves.{in_slot, not_overridden, replaced, table_full}
 use Rattle.cred_model.specs.Slots.{free, least_free}
 use Rattle.cred_model.specs.CallEvents.{by_raw}
+use Rattle.cred_model.specs.Change.{by_rule}
+use Rattle.cred_decide.specs.Refusals.{IsDenied}
+use Rattle.cred_decide.proofs.Denied.{denied_anew}
 use Rattle.cred_model.specs.Step.{outcome}
 use Rattle.cred_machine.specs.Room.{called_alone, swept_if}
 use Rattle.cred_machine.proofs.Leads.{idle_in}
@@ -42,11 +48,14 @@ can_call s task owner whose old looked lives own has same idle unlent = record {
 }
 
 module _ (s : State) (task : ℕ) (call : IdCall) (owner : Task) (old : Numbered) (can : CanCall s task owner old) where
-  pub raw_eperm : set_id old.cred call ≡ Err denial.Perm → outcome s (by_raw s task call) ≡ (Eperm, s)
-  raw_eperm rule = rw (can.lives, can.has, can.idle, can.own, rule) refl
+  raw_denied : (answer : Answer) → by_rule (set_id old.cred call) ≡ Err answer → outcome s (by_raw s task call) ≡ (answer, s)
+  raw_denied answer rule = rw (can.lives, can.has, can.idle, can.own, rule) refl
 
-  pub raw_einval : set_id old.cred call ≡ Err denial.Invalid → outcome s (by_raw s task call) ≡ (Einval, s)
-  raw_einval rule = rw (can.lives, can.has, can.idle, can.own, rule) refl
+  pub raw_refused : {E : Type 0} (answered : Result Answer E) (why : Refusal) → IsAnew (set_id old.cred call) (Err why) → IfOk answered (IsDenied why)
+      → IfOk answered (λ answer. outcome s (by_raw s task call) ≡ (answer, s))
+  raw_refused answered why anew denied =
+      IfOk-weaker answered (IsDenied why) (λ answer. outcome s (by_raw s task call) ≡ (answer, s))
+      (λ answer is. raw_denied answer (denied_anew (set_id old.cred call) why answer is anew)) denied
 
   raw_tests : (made : Credential) → set_id old.cred call ≡ Ok made
       → outcome s (by_raw s task call)

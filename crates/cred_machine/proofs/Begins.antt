@@ -3,6 +3,7 @@ use Rattle.std.proofs.Common.{◌≡◌, ◌⊎◌, ℕ, ◌==◌, not, Bool, tr
 use Rattle.std.proofs.Common.{inr}
 use Rattle.std.specs.Option.{option_map}
 use Rattle.std.specs.Result.{IfOk}
+use Rattle.std.proofs.lemmas.Result.{IfOk-weaker}
 use Rattle.cred_setid.specs.Becomes.{IsAnew}
 use Rattle.cred_record.specs.Credential.{Credential}
 use Rattle.cred_record.specs.declared.id_call.IdCall.{IdCall}
@@ -12,13 +13,16 @@ use Rattle.cred_record.specs.declared.refusal.Refusal.{Refusal}
 use Rattle.cred_record.specs.declared.refusal.Refusal.TheVariants as refusal
 use Rattle.cred_rules.specs.SetId.{set_id}
 use Rattle.cred_event.specs.declared.answer.Answer.{Answer}
-use Rattle.cred_event.specs.declared.answer.Answer.TheVariants.{Began, Eperm, Einval}
+use Rattle.cred_event.specs.declared.answer.Answer.TheVariants.{Began}
 use Rattle.cred_model.specs.State.{State, Task, Broadcast, ProcessFlag, Numbered, numbered, task_of, broadcast_in}
 use Rattle.cred_model.specs.Dumpable.{differs, renewed}
 use Rattle.cred_model.specs.Broadcasts.{not_busy, others_of, with_broadcast}
 use Rattle.cred_model.specs.Moves.{in_slot, not_overridden, replaced, table_full}
 use Rattle.cred_model.specs.Slots.{free, least_free}
 use Rattle.cred_model.specs.CallEvents.{by_begin}
+use Rattle.cred_model.specs.Change.{by_rule}
+use Rattle.cred_decide.specs.Refusals.{IsDenied}
+use Rattle.cred_decide.proofs.Denied.{denied_anew}
 use Rattle.cred_model.specs.Step.{outcome}
 use Rattle.cred_model.proofs.Numbers.{owner_number}
 use Rattle.cred_model.proofs.Places.{none_by_test}
@@ -62,11 +66,14 @@ can_begin f s line task owner whose old looked again other exists lives own has 
 }
 
 module _ (s : State) (line task : ℕ) (call : IdCall) (owner : Task) (old : Numbered) (can : CanBegin s line task owner old) where
-  pub begin_eperm : set_id old.cred call ≡ Err denial.Perm → outcome s (by_begin s line task call) ≡ (Eperm, s)
-  begin_eperm rule = rw (can.lives, can.has, can.idle, can.new, can.own, rule) refl
+  begin_denied : (answer : Answer) → by_rule (set_id old.cred call) ≡ Err answer → outcome s (by_begin s line task call) ≡ (answer, s)
+  begin_denied answer rule = rw (can.lives, can.has, can.idle, can.new, can.own, rule) refl
 
-  pub begin_einval : set_id old.cred call ≡ Err denial.Invalid → outcome s (by_begin s line task call) ≡ (Einval, s)
-  begin_einval rule = rw (can.lives, can.has, can.idle, can.new, can.own, rule) refl
+  pub begin_refused : {E : Type 0} (answered : Result Answer E) (why : Refusal) → IsAnew (set_id old.cred call) (Err why) → IfOk answered (IsDenied why)
+      → IfOk answered (λ answer. outcome s (by_begin s line task call) ≡ (answer, s))
+  begin_refused answered why anew denied =
+      IfOk-weaker answered (IsDenied why) (λ answer. outcome s (by_begin s line task call) ≡ (answer, s))
+      (λ answer is. begin_denied answer (denied_anew (set_id old.cred call) why answer is anew)) denied
 
   -- the call is made, by the broadcast that it begins
   others_are : (waiting : List ℕ) → waiting ≡ others_in owner.process task s.tasks → waiting ≡ others_of owner s.tasks

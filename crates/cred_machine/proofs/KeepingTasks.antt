@@ -124,7 +124,8 @@ replaces s answer left task slot owner old c broadcasts sound found at is =
 
 -- ---- labels that are committed
 
-not_itself : (change : Change) (owner : Task) → ends_with change owner owner ≡ false
+-- who commits doesn't end with it
+pub not_itself : (change : Change) (owner : Task) → ends_with change owner owner ≡ false
 not_itself (Exec file) owner = by (owner.process == owner.process) (owner.number == owner.number) (same owner.number)
   where
     same : (n : ℕ) → (n == n) ≡ true
@@ -138,7 +139,7 @@ not_itself (SetFs kind id) owner = refl
 not_itself (Adjust call) owner = refl
 not_itself Access owner = refl
 
-commits : (s : State) (answer : Answer) (place : ℕ) (p : Prepared) (ends : Task → Bool) (owner : Task) (c : Credential) → IsSound s
+pub commits : (s : State) (answer : Answer) (place : ℕ) (p : Prepared) (ends : Task → Bool) (owner : Task) (c : Credential) → IsSound s
     → slice_get s.prepared place ≡ Some p → task_of s p.task ≡ Some owner → ends owner ≡ false
     → Keeps s (answer, committed (ended ends s) place p owner.current c)
 commits s answer place p ends owner c sound is found on =

@@ -26,3 +26,4 @@ pub mod Leads
 pub mod Unflagged
 pub mod Live
 pub mod Steps
+pub mod StillLive

@@ -1,5 +1,5 @@
 -- Which slots are live after an id call and after a thread's step, by those that were before it.
-use Rattle.std.proofs.Common.{◌≡◌, ◌≢◌, ℕ, zero, suc, ◌-◌, ◌<◌, ◌==◌, ◌||◌, not, Bool, true, false, cond, if◌then◌else◌, MatchBool, List, [], ◌∷◌, ◌++◌, find}
+use Rattle.std.proofs.Common.{◌≡◌, ◌≢◌, ℕ, zero, suc, ◌-◌, ◌<◌, ◌==◌, ◌||◌, not, Bool, true, false, cond, MatchBool, List, [], ◌∷◌, ◌++◌, find}
 use Rattle.std.proofs.Common.{length, map, is_some, slice_get, Option, Some, None, Result, Ok, Err, ok_or, refl, sym, ap, ◌∙◌, subst, arith}
 use Rattle.std.specs.List.{All, AllPairs, concat, flat_map, list_any}
 use Rattle.std.specs.Option.{IfSome, option_map, option_map_or}
@@ -40,11 +40,11 @@ stands_before (c ∷ cs) x slot zero within = refl
 stands_before (c ∷ cs) x slot (suc n) within = stands_before cs x slot n (omega arith)
 
 -- the new one stands in its slot
-stands_new : (creds : List SealedCred) (x : SealedCred) (slot : ℕ) → stands_in (creds ++ x ∷ []) slot (length creds) ≡ (x.slot == slot)
+pub stands_new : (creds : List SealedCred) (x : SealedCred) (slot : ℕ) → stands_in (creds ++ x ∷ []) slot (length creds) ≡ (x.slot == slot)
 stands_new [] x slot = refl
 stands_new (c ∷ cs) x slot = stands_new cs x slot
 
-any_before : (creds : List SealedCred) (x : SealedCred) (slot : ℕ) (ns : List ℕ) → All (λ n. n < length creds) ns
+pub any_before : (creds : List SealedCred) (x : SealedCred) (slot : ℕ) (ns : List ℕ) → All (λ n. n < length creds) ns
     → list_any (stands_in (creds ++ x ∷ []) slot) ns ≡ list_any (stands_in creds slot) ns
 any_before creds x slot [] within = refl
 any_before creds x slot (n ∷ ns) within =
@@ -334,9 +334,13 @@ live_like a b like k =
     same_refs : (a b : State) → IsLike a b → refs a ≡ refs b
     same_refs a b like = rw (like.tasks, like.files, like.holds, like.prepared, like.deferred) refl
 
+pub known_as : (known : Option (List Bool)) (a b : State) → ((k : ℕ) → is_live a k ≡ is_live b k) → IfSome known (λ marks. AreLive marks b)
+    → IfSome known (λ marks. AreLive marks a)
+known_as None a b same live = tt
+known_as (Some marks) a b same live = λ k h. live k h ∙ sym (same k)
+
 pub known_like : (known : Option (List Bool)) (a b : State) → IsLike a b → IfSome known (λ marks. AreLive marks b) → IfSome known (λ marks. AreLive marks a)
-known_like None a b like live = tt
-known_like (Some marks) a b like live = λ k h. live k h ∙ sym (live_like a b like k)
+known_like known a b like live = known_as known a b (live_like a b like) live
 
 -- where nothing changed, what an event says of the live slots still holds
 pub known_still : (acts : Bool) (before now : Option (List Bool)) (s after : State) → MatchBool acts (IfSome now (λ marks. AreLive marks after)) (now ≡ before)
@@ -345,9 +349,3 @@ known_still true before now s after known same live = known
 known_still false before now s after kept same live =
     subst (λ (o : Option (List Bool)). IfSome o (λ marks. AreLive marks after)) (sym kept)
     (subst (λ (t : State). IfSome before (λ marks. AreLive marks t)) (sym same) live)
-
--- where only an id call and a thread's step say it
-pub known_kept : (acts : Bool) (before told now : Option (List Bool)) (s : State) → MatchBool acts (IfSome told (λ marks. AreLive marks s)) (told ≡ before)
-    → now ≡ (if acts then told else None) → IfSome now (λ marks. AreLive marks s)
-known_kept true before told now s known is = subst (λ (o : Option (List Bool)). IfSome o (λ marks. AreLive marks s)) (sym is) known
-known_kept false before told now s kept is = subst (λ (o : Option (List Bool)). IfSome o (λ marks. AreLive marks s)) (sym is) tt

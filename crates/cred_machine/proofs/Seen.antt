@@ -1,5 +1,5 @@
 -- What contracts see of a state and of what stands in it, by the fields of the code, and what was found there.
-use Rattle.std.proofs.Common.{◌≡◌, ℕ, Bool, List, find, get_or, position, slice_get, Some, sym, ap, ◌∙◌}
+use Rattle.std.proofs.Common.{◌≡◌, ℕ, Bool, List, find, get_or, position, reverse, slice_get, Some, sym, ap, ◌∙◌}
 use Rattle.cred_model.specs.State.{State, Task, Broadcast, Prepared}
 use Rattle.cred_plain.specs.declared.casts.Cast.TheInside as broadcast
 use Rattle.cred_plain.specs.declared.labels.Prepared.TheInside as prepared
@@ -24,7 +24,7 @@ abbrev pub seen_task : task.Inside → Task
 seen_task t = record { number = t.number; process = t.process; current = t.current; overrides = t.overrides.items }
 
 abbrev pub seen_broadcast : broadcast.Inside → Broadcast
-seen_broadcast b = record { number = b.number; process = b.process; caller = b.caller; call = b.call; waiting = b.waiting.items }
+seen_broadcast b = record { number = b.number; process = b.process; caller = b.caller; call = b.call; waiting = reverse b.falling.items }
 
 abbrev pub seen_prepared : prepared.Inside → Prepared
 seen_prepared p = record { label = p.label; task = p.task; base = p.base; slot = p.slot; changed = p.changed }

@@ -1,7 +1,9 @@
 -- A file is changed, or asked about, by the credential that a label holds.
 use Rattle.std.proofs.Common.{◌≡◌, ℕ, Bool, true, List, slice_get, slice_set, is_some, Option, Some, None, Result, Ok, Err, ◌⊎◌, inl, inr, refl, sym, ap, subst}
 use Rattle.cred_ids.specs.declared.arg.Arg.{Arg}
-use Rattle.cred_record.specs.Answer.{AnswersBy}
+use Rattle.std.specs.Result.{IfOk}
+use Rattle.std.proofs.lemmas.Result.{IfOk-weaker}
+use Rattle.cred_record.specs.Answer.{AnswersBy, refusal_of}
 use Rattle.cred_record.specs.Credential.{Credential}
 use Rattle.cred_record.specs.File.{File}
 use Rattle.cred_record.specs.declared.refusal.Denial.{Denial}
@@ -11,14 +13,17 @@ use Rattle.cred_record.specs.declared.refusal.Refusal.TheVariants as refusal
 use Rattle.cred_attr.specs.Exactly.{AnswersExactly}
 use Rattle.cred_event.specs.declared.event.Event.{Event}
 use Rattle.cred_event.specs.declared.event.Event.TheVariants.{Chown, Chmod, SetAttr}
-use Rattle.cred_event.specs.declared.answer.Answer.TheVariants.{Done, Told, Eperm, Einval, NoHold}
+use Rattle.cred_event.specs.declared.answer.Answer.TheVariants.{Done, Told, NoHold}
 use Rattle.cred_event.specs.declared.answer.Told.TheVariants as told
 use Rattle.cred_event.specs.declared.answer.Answer.{Answer}
+use Rattle.cred_model.specs.Change.{by_rule}
 use Rattle.cred_model.specs.FileChanges.{changed_by, event_changes}
 use Rattle.cred_model.specs.Script.{Script}
 use Rattle.cred_model.specs.State.{State, Numbered, held_by}
 use Rattle.cred_model.specs.FileEvents.{by_file, by_stat}
 use Rattle.cred_model.specs.Step.{done, outcome}
+use Rattle.cred_decide.specs.Refusals.{IsDenied}
+use Rattle.cred_decide.proofs.Denied.{answered}
 use Rattle.cred_machine.specs.Written.{IsMadeBy}
 
 -- ---- what was made
@@ -39,6 +44,15 @@ pub made_exactly : (given : Result File Denial) (made : Result File Refusal) →
 made_exactly (Ok file) made is = subst (IsMadeBy (Ok file)) (sym is) refl
 made_exactly (Err denial.Perm) made is = subst (IsMadeBy (Err denial.Perm)) (sym is) refl
 made_exactly (Err denial.Invalid) made is = subst (IsMadeBy (Err denial.Invalid)) (sym is) refl
+
+-- what the rule denies, by the refusal
+denial_made : (given : Result File Denial) (d : Denial) → IsMadeBy given (Err (refusal_of d)) → given ≡ Err d
+denial_made given denial.Perm is = is
+denial_made given denial.Invalid is = is
+
+denied_made : (given : Result File Denial) (why : Refusal) (answer : Answer) → IsDenied why answer → IsMadeBy given (Err why) → by_rule given ≡ Err answer
+denied_made given why answer is made =
+    answered given why answer is (denial_made given is.denial (subst (λ (w : Refusal). IsMadeBy given (Err w)) is.reports made))
 
 -- an event that changes a file is one of three
 pub no_other : (event : Event) → event_changes event ≡ true
@@ -74,11 +88,14 @@ module _ (s : State) (hold place : ℕ) (rule : Credential → File → Result F
           → outcome s (by_file s hold place rule) ≡ (Done, record s { infos = infos })
       file_written new infos ruled now = rw (has, there, ruled, now) refl
 
-      pub file_eperm : rule held.cred old ≡ Err denial.Perm → outcome s (by_file s hold place rule) ≡ (Eperm, s)
-      file_eperm ruled = rw (has, there, ruled) refl
+      file_denied : (answer : Answer) → by_rule (rule held.cred old) ≡ Err answer → outcome s (by_file s hold place rule) ≡ (answer, s)
+      file_denied answer ruled = rw (has, there, ruled) refl
 
-      pub file_einval : rule held.cred old ≡ Err denial.Invalid → outcome s (by_file s hold place rule) ≡ (Einval, s)
-      file_einval ruled = rw (has, there, ruled) refl
+      pub file_refused : {E : Type 0} (answered : Result Answer E) (why : Refusal) → IsMadeBy (rule held.cred old) (Err why) → IfOk answered (IsDenied why)
+          → IfOk answered (λ answer. outcome s (by_file s hold place rule) ≡ (answer, s))
+      file_refused answered why made denied =
+          IfOk-weaker answered (IsDenied why) (λ answer. outcome s (by_file s hold place rule) ≡ (answer, s))
+          (λ answer is. file_denied answer (denied_made (rule held.cred old) why answer is made)) denied
 
 -- ---- how it stands
 

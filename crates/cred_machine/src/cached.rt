@@ -9,7 +9,7 @@ ghost use Rattle.cred_model.specs.Step.{done};
 ghost use Rattle.cred_sound.specs.Sound.{IsSound};
 ghost use Rattle.cred_machine.specs.Kept.{KeepsReferred, as_begun, may_have_swept};
 ghost use Rattle.cred_machine.specs.Kept.{may_have_dropped};
-ghost use Rattle.cred_machine.specs.Slots.{AreLive, TakesSlot, takes_slot};
+ghost use Rattle.cred_machine.specs.Slots.{AreLive, TakesSlot, keeps_marks, takes_slot};
 
 use crate::slots::{Marks, live_slots};
 use crate::state::State;
@@ -23,9 +23,11 @@ use std::marker::Model;
 /// A state, and which of its slots are live where that is known. Contracts see the state. A
 /// credential is kept as long as something refers to it, and no longer.
 ///
-/// An id call takes a slot, and so does each thread's step in a broadcast; neither gives one back
-/// unless there is a sweep. So the next one needs no search through all that refers; only after
-/// another event, or after a sweep, is there one.
+/// A preparation takes a slot, and so do an id call and each thread's step in a broadcast. A take,
+/// a release, a question, a change and a commit leave those live that are, since what they give up
+/// stays until a sweep. So the next preparation or call needs no search through all that refers.
+/// Only after another event, a sweep, or a commit that comes too late, whose slot is given up, is
+/// there one.
 #[derive(Drop)]
 pub struct CachedState {
     state: State,
@@ -74,7 +76,7 @@ impl CachedState {
     {
         let before = self.state.given_up();
         let answer = self.state.make(&mut self.live, script, line, event)?;
-        keep_after_call(&mut self.live, event);
+        keep_marks(&mut self.live, event, &answer);
         let swept = may_have_dropped(event, before, &answer, self.state.given_up());
         self.state.forget_if(swept);
         Ok(answer)
@@ -82,8 +84,8 @@ impl CachedState {
 }
 
 impl State {
-    /// Makes one event, and forgets nothing. Which slots are live may be known: an id call and a
-    /// thread's step say which are after it, and no other event does.
+    /// Makes one event, and forgets nothing. Which slots are live may be known: a preparation, an
+    /// id call and a thread's step say which are after it, and no other event does.
     fn make(
         &mut self,
         live: &mut Option<Marks>,
@@ -118,7 +120,7 @@ impl State {
                 to,
                 target,
             } => Ok(self.signal(*from, *hold, *to, *target)),
-            Event::Prepare { label, task, hold } => self.prepare(*label, *task, *hold),
+            Event::Prepare { label, task, hold } => self.prepare(live, *label, *task, *hold),
             Event::Alter { label, change } => self.alter(script, *label, *change),
             Event::Commit { label } => self.commit(*label),
             Event::Abort { label } => self.abort(*label),
@@ -179,13 +181,30 @@ impl State {
     }
 }
 
-/// Only after an id call or a thread's step it is known which slots are live.
-fn keep_after_call(live: &mut Option<Marks>, event: &Event)
-    ensures { live.new ≡ (if takes_slot event.now then live.old else None) }
+/// Only after some events it is known which slots are live.
+fn keep_marks(live: &mut Option<Marks>, event: &Event, answer: &Answer)
+    ensures { live.new ≡ (if keeps_marks event.now answer.now then live.old else None) }
+{
+    if !keeps_marks(event, answer) {
+        *live = None;
+    }
+}
+
+/// Whether it is still known after the event which slots are live, where it was before. A commit
+/// that comes too late gives up the slot that was kept for it.
+fn keeps_marks(event: &Event, answer: &Answer) -> bool
+    ensures { result ≡ keeps_marks event.now answer.now }
 {
     match event {
-        Event::Begin { .. } | Event::Act { .. } => {}
-        _ => *live = None,
+        Event::Take { .. }
+        | Event::Release { .. }
+        | Event::Ask { .. }
+        | Event::Prepare { .. }
+        | Event::Alter { .. }
+        | Event::Begin { .. }
+        | Event::Act { .. } => true,
+        Event::Commit { .. } => !matches!(answer, Answer::Stale { .. }),
+        _ => false,
     }
 }
 

@@ -15,6 +15,7 @@ ghost use Rattle.cred_machine.specs.Room.{IsCurrentOf, begun, sealed_for, swept_
 
 use crate::slots::{Marks, Room, defer_left, live_slots, make_room};
 use crate::state::{State, overridden};
+use cred_decide::refusal_answer;
 use cred_event::{AbortCause, Answer, Named};
 use cred_ids::NoMemory;
 use cred_plain::casts::{
@@ -82,19 +83,11 @@ impl State {
         }
         let cred = match call_on_copy(self.alloc, old.cred, call) {
             Ok(cred) => cred,
-            Err(Refusal::Perm) => return Ok(Answer::Eperm),
-            Err(Refusal::Invalid) => return Ok(Answer::Einval),
-            Err(Refusal::Memory) => return Err(NoMemory),
+            Err(refusal) => return refusal_answer(refusal),
         };
         let other = differs(old.cred, &cred);
         let (number, waiting) = (old.number, self.tasks.others(process, task)?);
-        let broadcast = Cast {
-            number: line,
-            process,
-            caller: task,
-            call: call.copy()?,
-            waiting,
-        };
+        let broadcast = Cast::new(line, process, task, call.copy()?, waiting);
         self.open(live, broadcast, number, cred, other)
     }
 
@@ -124,7 +117,7 @@ impl State {
             return Ok(self.table_full());
         };
         let (task, process) = (broadcast.caller, broadcast.process);
-        let left = broadcast.waiting.len() as u32;
+        let left = broadcast.waiters();
         let before = self.broadcasts.len();
         open_broadcast(&mut self.broadcasts, broadcast)?;
         let number = match self.replace(task, old, cred, slot, swept) {

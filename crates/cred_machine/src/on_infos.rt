@@ -8,6 +8,7 @@ ghost use Rattle.cred_machine.specs.Written.{IsMadeBy};
 
 use crate::state::State;
 use cred_attr::{chmod, chown, set_attr};
+use cred_decide::refusal_answer;
 use cred_event::{Answer, Event, Told};
 use cred_ids::NoMemory;
 use cred_record::{Cred, FileInfo, Refusal, copy_attr};
@@ -61,9 +62,7 @@ impl State {
                 self.infos.replace(file, new);
                 Ok(Answer::Done)
             }
-            Err(Refusal::Perm) => Ok(Answer::Eperm),
-            Err(Refusal::Invalid) => Ok(Answer::Einval),
-            Err(Refusal::Memory) => Err(NoMemory),
+            Err(refusal) => refusal_answer(refusal),
         }
     }
 

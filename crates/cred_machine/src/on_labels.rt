@@ -10,9 +10,10 @@ ghost use Rattle.cred_model.specs.State.{numbered_in};
 ghost use Rattle.cred_sound.specs.Sound.{IsSound};
 ghost use Rattle.cred_machine.specs.Labels.{CanCommit, Commits};
 ghost use Rattle.cred_machine.specs.Labels.{IsOnCurrent};
+ghost use Rattle.cred_machine.specs.Slots.{AreLive};
 ghost use Rattle.cred_plain.specs.Tasks.{ending_of};
 
-use crate::slots::{Room, make_room, sweep_if};
+use crate::slots::{Marks, Room, live_slots, make_room, sweep_if};
 use crate::state::{State, differs_from, overridden};
 use cred_access::may_signal;
 use cred_decide::{Made, change as change_of, committed_by, reply};
@@ -133,14 +134,23 @@ impl State {
 
     /// The label prepares a new credential for the task, based on the one that the hold has, and
     /// keeps the slot that the new one will stand in. `NoTask`, `Busy`, `NoHold`, `Exists` and
-    /// `TooMany` leave the state; `TableFull` leaves it swept.
+    /// `TooMany` leave the state; `TableFull` leaves it swept. Which slots are live may be known
+    /// before it and after it.
     ///
     /// # Errors
     ///
     /// `NoMemory` if an allocation fails: the state is as it was.
-    pub(crate) fn prepare(&mut self, label: u32, task: u32, hold: u32) -> Result<Answer, NoMemory>
+    pub(crate) fn prepare(
+        &mut self,
+        live: &mut Option<Marks>,
+        label: u32,
+        task: u32,
+        hold: u32,
+    ) -> Result<Answer, NoMemory>
+        requires { IfSome live.old (λ marks. AreLive marks self.old) }
         ensures ok { IfOk result (λ answer.
             Gives self.old (by_prepare self.old label task hold) answer self.new) }
+        ensures live { IfSome live.new (λ marks. AreLive marks self.new) }
         ensures err { OnErr result (self.new ≡ self.old) }
     {
         if !self.tasks.alive(task) {
@@ -162,7 +172,8 @@ impl State {
         if self.prepared.len() >= limits::PREPARED {
             return Ok(Answer::TooMany(Counted::Prepared));
         }
-        let Room { slot, swept } = self.room()?;
+        let mut marks = live_slots(self, live.take())?;
+        let Room { slot, swept } = self.room_in(&mut marks)?;
         let Some(slot) = slot else {
             return Ok(self.table_full());
         };
@@ -174,6 +185,7 @@ impl State {
             changed: None,
         })?;
         sweep_if(&mut self.deferred, swept);
+        *live = marks.after_call(slot, swept);
         Ok(Answer::Kept { slot })
     }
 

@@ -9,11 +9,12 @@ ghost use Rattle.cred_machine.specs.Room.{called_alone};
 use crate::on_broadcasts::call_on_copy;
 use crate::slots::Room;
 use crate::state::{State, overridden};
+use cred_decide::refusal_answer;
 use cred_event::Answer;
 use cred_ids::NoMemory;
 use cred_plain::casts::open_in;
 use cred_ptrace::differs;
-use cred_record::{Cred, IdCall, Refusal};
+use cred_record::{Cred, IdCall};
 
 impl State {
     /// A task makes an id call for itself alone: no other thread of its process waits for a step.
@@ -42,9 +43,7 @@ impl State {
         }
         let cred = match call_on_copy(self.alloc, old.cred, call) {
             Ok(cred) => cred,
-            Err(Refusal::Perm) => return Ok(Answer::Eperm),
-            Err(Refusal::Invalid) => return Ok(Answer::Einval),
-            Err(Refusal::Memory) => return Err(NoMemory),
+            Err(refusal) => return refusal_answer(refusal),
         };
         let other = differs(old.cred, &cred);
         let number = old.number;

@@ -2,9 +2,11 @@
 //! says what each word holds, and which words are a credential's.
 #![tactic(auto)]
 
+mod heads;
 mod reading;
 mod writing;
 
+pub use heads::Head;
 pub use reading::{
     group_count, group_in, ids_in, known_group, known_head, known_ids_in, of_words, secure_bits,
 };

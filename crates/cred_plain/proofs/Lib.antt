@@ -9,3 +9,4 @@ pub mod Rising
 pub mod Least
 pub mod Stands
 pub mod Stepped
+pub mod Falling

@@ -1,5 +1,5 @@
 -- The least that waits in a broadcast waits no more.
-use Rattle.std.proofs.Common.{◌≡◌, ◌==◌, ◌||◌, not, ℕ, zero, suc, ◌<◌, cond, List, [], ◌∷◌, drop, map, get_or, set, slice_get, length, Option, Some, true}
+use Rattle.std.proofs.Common.{◌≡◌, ◌==◌, ◌||◌, not, ℕ, zero, suc, ◌<◌, cond, List, [], ◌∷◌, drop, map, get_or, set, slice_get, length, Some, true}
 use Rattle.std.proofs.Common.{false, Bool, refl, sym, ap, ◌∙◌, subst, arith}
 use Rattle.std.specs.List.{All, AllPairs, filter, list_any, remove}
 use Rattle.std.specs.Option.{IsSomeAnd}

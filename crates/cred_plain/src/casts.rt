@@ -1,9 +1,10 @@
 //! The open broadcasts (nptl(7)).
-ghost use Rattle.std.specs.Prelude.{◌≡◌, ◌<◌, ◌==◌, ◌+◌, ◌++◌, ◌∷◌, [], drop, find, length};
+ghost use Rattle.std.specs.Prelude.{◌≡◌, ◌<◌, ◌≤◌, ◌==◌, ◌+◌, ◌++◌, ◌∷◌, [], drop, find, length};
 ghost use Rattle.std.specs.Prelude.{position, slice_get, Some, Ok, Err, MatchOption, OnOk, OnErr};
 ghost use Rattle.std.specs.List.{AllPairs};
 ghost use Rattle.std.specs.Option.{IsSomeAnd, option_map};
 ghost use Rattle.cred_event.specs.declared.answer.Answer.TheVariants.{Busy};
+ghost use Rattle.cred_ids.specs.Limits.{TASKS};
 ghost use Rattle.cred_ids.specs.Ordered.{in_order};
 ghost use Rattle.cred_model.specs.Broadcasts.{is_open, not_busy, waits_in, waits_no_more};
 ghost use Rattle.cred_model.specs.Broadcasts.{with_broadcast};
@@ -15,17 +16,20 @@ use cred_record::IdCall;
 use std::marker::Model;
 
 /// A call that every thread of a process makes, one after another: the line that began it, the
-/// process, the thread that made it first, and those that still have to make it, in rising order.
+/// process, the thread that made it first, and those that still have to make it. Contracts see
+/// those in rising order.
 #[derive(Drop)]
 pub struct Cast {
     pub number: u32,
     pub process: u32,
     pub caller: u32,
     pub call: IdCall,
-    pub waiting: Vec<u32>,
+    /// Those that wait, in falling order: the least, whose turn is next, is the last.
+    falling: Vec<u32>,
 }
 
 impl Model for Cast {
+    ghost use Rattle.std.specs.Prelude.{reverse};
     ghost use Rattle.cred_model.specs.State.{Broadcast};
 
     ghost Value = { Broadcast };
@@ -35,30 +39,60 @@ impl Model for Cast {
       process = c.process;
       caller = c.caller;
       call = c.call;
-      waiting = c.waiting.items;
+      waiting = reverse c.falling.items;
     } };
 }
 
 impl Cast {
+    /// A call that these threads still have to make.
+    #[inline(always)]
+    pub fn new(number: u32, process: u32, caller: u32, call: IdCall, waiting: Vec<u32>) -> Cast
+        ensures { result ≡ record {
+          number = number;
+          process = process;
+          caller = caller;
+          call = call;
+          waiting = waiting.items;
+        } }
+    {
+        let mut falling = waiting;
+        falling.reverse();
+        Cast {
+            number,
+            process,
+            caller,
+            call,
+            falling,
+        }
+    }
+
     /// Whether a task waits.
     pub fn waits(&self, task: u32) -> bool
         ensures { result ≡ waits_in task self.now }
     {
-        self.waiting.contains(&task)
+        self.falling.contains(&task)
     }
 
     /// Whether somebody waits.
     fn is_open(&self) -> bool
         ensures { result ≡ is_open self.now }
     {
-        !self.waiting.is_empty()
+        !self.falling.is_empty()
     }
 
     /// The least of those that wait.
     pub fn least(&self) -> Option<u32>
         ensures { result ≡ slice_get self.now.waiting 0 }
     {
-        self.waiting.first().copied()
+        self.falling.last().copied()
+    }
+
+    /// How many wait.
+    pub fn waiters(&self) -> u32
+        requires { length self.now.waiting ≤ TASKS }
+        ensures { result ≡ length self.now.waiting }
+    {
+        self.falling.len() as u32
     }
 
     /// How many wait beside the least one, where somebody waits.
@@ -68,9 +102,9 @@ impl Cast {
         ensures { result + 1 ≡ length self.now.waiting }
     {
         // They are all different, so the greatest bounds how many there are.
-        let greatest = *self.waiting.last().unwrap();
-        prove!(self.waiting.len() - 1 <= greatest as usize);
-        (self.waiting.len() - 1) as u32
+        let greatest = *self.falling.first().unwrap();
+        prove!(self.falling.len() - 1 <= greatest as usize);
+        (self.falling.len() - 1) as u32
     }
 
     /// Adds a task that waits. If an allocation fails, nothing changes.
@@ -79,8 +113,9 @@ impl Cast {
             ≡ record self.old { waiting = in_order (self.old.waiting ++ task ∷ []) }) }
         ensures err { OnErr result (self.new ≡ self.old) }
     {
-        self.waiting.push(task)?;
-        self.waiting.sort_unstable();
+        self.falling.push(task)?;
+        self.falling.sort_unstable();
+        self.falling.reverse();
         Ok(())
     }
 
@@ -89,14 +124,14 @@ impl Cast {
         requires { 0 < length self.old.waiting }
         ensures { self.new ≡ record self.old { waiting = drop 1 self.old.waiting } }
     {
-        self.waiting.remove(0);
+        self.falling.pop();
     }
 
     /// Removes a task from those that wait.
     fn leave(&mut self, task: u32)
         ensures { self.new ≡ without_waiter task self.old }
     {
-        self.waiting.retain(|other| *other != task);
+        self.falling.retain(|other| *other != task);
     }
 }
 
@@ -163,7 +198,7 @@ pub fn open_broadcast(broadcasts: &mut Vec<Cast>, broadcast: Cast) -> Result<(),
         ≡ with_broadcast broadcasts.old.items broadcast) }
     ensures err { OnErr result (broadcasts.new.items ≡ broadcasts.old.items) }
 {
-    if !broadcast.waiting.is_empty() {
+    if broadcast.is_open() {
         broadcasts.push(broadcast)?;
     }
     Ok(())
@@ -211,7 +246,7 @@ pub fn leave(broadcasts: &mut Vec<Cast>, task: u32)
     for broadcast in broadcasts.iter_mut() {
         broadcast.leave(task);
     }
-    broadcasts.retain(|broadcast| !broadcast.waiting.is_empty());
+    broadcasts.retain(|broadcast| broadcast.is_open());
 }
 
 /// Drops the broadcast of a process.

@@ -6,7 +6,8 @@ use Rattle.cred_machine.proofs.Forgetting.{gives_like, still_referred}
 use Rattle.cred_machine.proofs.KeptByEvents.{Keeps}
 use Rattle.cred_machine.proofs.NothingIsLost.{counted, keeps}
 use Rattle.cred_machine.specs.Slots.{takes_slot}
-use Rattle.cred_machine.proofs.Live.{known_kept, known_like, known_still}
+use Rattle.cred_machine.proofs.Live.{known_like, known_still}
+use Rattle.cred_machine.proofs.StillLive.{known_kept}
 use Rattle.cred_machine.proofs.cached.CachedState.step.Goals as goal
 
 pub invariant_of-self : goal.invariant_of-self
@@ -30,9 +31,10 @@ forget_if-requires c = λ unswept.
 
 pub invariant_of-self-2 : goal.invariant_of-self-2
 invariant_of-self-2 c = record {
-  known = known_like c.keep_after_call.new.live _ _ c.forget_if.ensures.like
-      (known_kept (takes_slot c.args.event.now) c.self.inside.live c.make.new.live c.keep_after_call.new.live c.make.new.self
-      c.in_ok-answer.ensures.live c.keep_after_call.ensures);
+  known = known_like c.keep_marks.new.live _ _ c.forget_if.ensures.like
+      (known_kept c.args.script.now c.self.inside.state c.make.new.self c.args.line c.args.event.now c.in_ok-answer.answer c.self.inside.live
+      c.make.new.live c.keep_marks.new.live (rw (← c.self.view_is) at c.requires.sound) c.in_ok-answer.ensures.ok c.self.invariant.known
+      c.in_ok-answer.ensures.live c.keep_marks.ensures);
   kept = c.forget_if.ensures.kept;
 }
 

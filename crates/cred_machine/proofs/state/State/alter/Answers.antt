@@ -16,7 +16,7 @@ returns-in-Err-clause-ok c =
     let ids = c.chain_of-chain.ensures ∙ ap (λ (of : Credential). chain_of c.args.script.now of.ns) c.base.view_is in
     rw (← c.self.view_is)
     (alter_refused c.args.script.now s c.args.label c.args.change p (seen_numbered c.in-Some-get.field-0) there (sym c.in-Some-get.ensures) _ _
-    c.executed_file-file.ensures ids c.in_ok-made.field-0 c.in-Err.answer c.in_ok-made.ensures c.in-Err.is)
+    c.executed_file-file.ensures ids c.in_ok-made.field-0 c.in-Err.answer c.in_ok-made.ensures.made c.in-Err.is)
 
 pub returns-clause-ok : goal.returns-clause-ok
 returns-clause-ok c =
@@ -28,5 +28,5 @@ returns-clause-ok c =
     let sound = rw (← c.self.view_is) at c.requires in
     rw (← c.self.view_is)
     (alter_leads c.args.script.now s c.args.label c.args.change p (seen_numbered c.in-Some-get.field-0) there (sym c.in-Some-get.ensures) _ _
-    c.executed_file-file.ensures ids c.in_ok-made.field-0 m _ _ c.in_ok-made.ensures (rw (← c.answer.view_is) at c.in-Ok.is) refl
+    c.executed_file-file.ensures ids c.in_ok-made.field-0 m _ _ c.in_ok-made.ensures.made (rw (← c.answer.view_is) at c.in-Ok.is) refl
     (c.change_at.ensures sound.prepared))

@@ -1,7 +1,7 @@
 use Rattle.std.proofs.Common.{sym}
 use Rattle.cred_event.specs.declared.answer.Answer.TheVariants.{Busy}
 use Rattle.cred_plain.specs.Creds.{seen_numbered}
-use Rattle.cred_machine.proofs.Begins.{begin_busy, begin_einval, begin_eperm, begins, can_begin, same_answer}
+use Rattle.cred_machine.proofs.Begins.{begin_busy, begin_refused, begins, can_begin, same_answer}
 use Rattle.cred_machine.proofs.Leads.{idle_in}
 use Rattle.cred_machine.proofs.Seen.{seen_state, seen_task}
 use Rattle.cred_machine.proofs.Steps.{current_of}
@@ -16,27 +16,17 @@ returns-in-Some-open_in-clause-ok c =
     (rw (← c.owner.view_is) at (sym c.in-Some.ensures)) (sym c.in-Some-get.ensures) (Busy c.in-Some-open_in.broadcast)
     (idle_in s _ o.process _ c.deref.ensures.value c.in-Some-open_in.ensures))
 
-pub returns-in-Err-Perm-clause-ok : goal.returns-in-Err-Perm-clause-ok
-returns-in-Err-Perm-clause-ok c =
+pub returns-in-Err-clause-ok : goal.returns-in-Err-clause-ok
+returns-in-Err-clause-ok c =
     let s = seen_state c.self.inside in
     let o = seen_task c.owner.inside in
     let old = seen_numbered c.in-Some-get.old in
     let can = can_begin (λ x. x.now) s c.args.line c.args.task o _ old _ _ c.broadcast_of.result c.is_some.result c.in-Some.ensures c.owner.view_is
     c.in-Some-get.ensures c.deref.ensures.value c.in_default-open_in.ensures c.deref-2.ensures.value c.broadcast_of.ensures c.is_some.ensures
     c.if-is_some.false c.in_default-overridden.ensures in
-    let rule = rw c.in-Err-Perm.field-0-is at c.in-Err-Perm.ensures in
-    rw (← c.self.view_is) (begin_eperm s c.args.line c.args.task c.args.call.now o old can rule)
-
-pub returns-in-Err-Invalid-clause-ok : goal.returns-in-Err-Invalid-clause-ok
-returns-in-Err-Invalid-clause-ok c =
-    let s = seen_state c.self.inside in
-    let o = seen_task c.owner.inside in
-    let old = seen_numbered c.in-Some-get.old in
-    let can = can_begin (λ x. x.now) s c.args.line c.args.task o _ old _ _ c.broadcast_of.result c.is_some.result c.in-Some.ensures c.owner.view_is
-    c.in-Some-get.ensures c.deref.ensures.value c.in_default-open_in.ensures c.deref-2.ensures.value c.broadcast_of.ensures c.is_some.ensures
-    c.if-is_some.false c.in_default-overridden.ensures in
-    let rule = rw c.in-Err-Invalid.field-0-is at c.in-Err-Invalid.ensures in
-    rw (← c.self.view_is) (begin_einval s c.args.line c.args.task c.args.call.now o old can rule)
+    rw (← c.self.view_is)
+    (begin_refused s c.args.line c.args.task c.args.call.now o old can c.refusal_answer.result c.in-Err.refusal c.in-Err.ensures
+    c.refusal_answer.ensures.answer)
 
 pub returns-clause-ok : goal.returns-clause-ok
 returns-clause-ok c =
@@ -50,12 +40,12 @@ returns-clause-ok c =
     (same_answer _ _ c.open.result c.open.new.self
     (begins s c.args.line c.args.task c.args.call.now o old can c.in-Ok.cred c.in_ok-copy.field-0 c.in_ok-waiting.waiting.items
     c.differs-other.result c.in-Ok.ensures c.in_ok-copy.ensures.equal c.in_ok-waiting.ensures.others c.differs-other.ensures)
-    (rw (← c.self.view_is) at c.open.ensures.ok))
+    (rw (c.new-broadcast.ensures, ← c.self.view_is) at c.open.ensures.ok))
 
 pub open-requires-clause-caller : goal.open-requires-clause-caller
 open-requires-clause-caller c =
     let s = seen_state c.self.inside in
     let o = seen_task c.owner.inside in
-    rw (← c.self.view_is)
+    rw (c.new-broadcast.ensures, ← c.self.view_is)
     (current_of s c.args.task o (seen_numbered c.in-Some-get.old)
     (rw (← c.owner.view_is) at (sym c.in-Some.ensures)) (sym c.in-Some-get.ensures))

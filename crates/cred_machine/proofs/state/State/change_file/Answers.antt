@@ -5,7 +5,7 @@ use Rattle.cred_model.specs.FileChanges.{changed_by}
 use Rattle.cred_plain.specs.Creds.{seen_numbered}
 use Rattle.cred_plain.proofs.Places.{none_is}
 use Rattle.cred_machine.proofs.Seen.{seen_state}
-use Rattle.cred_machine.proofs.Written.{file_unheld, file_none, file_written, file_eperm, file_einval}
+use Rattle.cred_machine.proofs.Written.{file_unheld, file_none, file_written, file_refused}
 use Rattle.cred_machine.proofs.state.State.change_file.Goals as goal
 
 pub returns-in_default-clause-ok : goal.returns-in_default-clause-ok
@@ -30,21 +30,13 @@ returns-in-Ok-clause-ok c =
     (rw (← c.self.view_is) at (sym c.in-Some.ensures)) c.in-Some-file.old.now (sym c.in-Some-file.ensures) c.in-Ok.new _
     c.in-Ok.ensures c.replace.ensures)
 
-pub returns-in-Err-Perm-clause-ok : goal.returns-in-Err-Perm-clause-ok
-returns-in-Err-Perm-clause-ok c =
+pub returns-in-Err-clause-ok : goal.returns-in-Err-clause-ok
+returns-in-Err-clause-ok c =
     let s = seen_state c.self.inside in
-    let ruled = rw c.in-Err-Perm.field-0-is at c.in-Err-Perm.ensures in
     rw (← c.self.view_is)
-    (file_eperm s c.args.hold c.args.file (changed_by c.args.event.now) (seen_numbered c.in-Some.held)
-    (rw (← c.self.view_is) at (sym c.in-Some.ensures)) c.in-Some-file.old.now (sym c.in-Some-file.ensures) ruled)
-
-pub returns-in-Err-Invalid-clause-ok : goal.returns-in-Err-Invalid-clause-ok
-returns-in-Err-Invalid-clause-ok c =
-    let s = seen_state c.self.inside in
-    let ruled = rw c.in-Err-Invalid.field-0-is at c.in-Err-Invalid.ensures in
-    rw (← c.self.view_is)
-    (file_einval s c.args.hold c.args.file (changed_by c.args.event.now) (seen_numbered c.in-Some.held)
-    (rw (← c.self.view_is) at (sym c.in-Some.ensures)) c.in-Some-file.old.now (sym c.in-Some-file.ensures) ruled)
+    (file_refused s c.args.hold c.args.file (changed_by c.args.event.now) (seen_numbered c.in-Some.held)
+    (rw (← c.self.view_is) at (sym c.in-Some.ensures)) c.in-Some-file.old.now (sym c.in-Some-file.ensures) c.refusal_answer.result c.in-Err.refusal
+    c.in-Err.ensures c.refusal_answer.ensures.answer)
 
 pub replace-requires : goal.replace-requires
 replace-requires c =

@@ -1,4 +1,4 @@
-use Rattle.std.proofs.Common.{Bool, List, arith, ap, sym, ◌∙◌}
+use Rattle.std.proofs.Common.{Bool, List, ap, sym, ◌∙◌}
 use Rattle.cred_model.specs.Moves.{table_full}
 use Rattle.cred_model.specs.State.{Broadcast}
 use Rattle.cred_machine.specs.Room.{begun}
@@ -25,10 +25,10 @@ pub returns-clause-ok : goal.returns-clause-ok
 returns-clause-ok c =
     rw (← c.self.view_is, ← c.broadcast.view_is)
     (opens (seen_state c.self.inside) (seen_broadcast c.broadcast.inside) c.args.old _ c.args.other c.in-Some.slot c.in_ok-slot.field-0.swept c.in-Ok.number
-    c.len-left.result _
+    c.waiters-left.result _
     (seen_state c.self-2.inside) _
     (rw (← c.self.view_is) at (sym c.in_ok-slot.ensures.slot ∙ c.in-Some.is)) (rw (← c.self.view_is) at c.in_ok-slot.ensures.swept)
-    c.in-Ok.ensures.number (omega (arith, c.len-left.ensures, c.broadcast.inside.waiting.ok)) (rw (← c.broadcast.view_is) at c.in_ok-open_broadcast.ensures.ok)
+    c.in-Ok.ensures.number (rw (← c.broadcast.view_is) at c.waiters-left.ensures) (rw (← c.broadcast.view_is) at c.in_ok-open_broadcast.ensures.ok)
     (c.self-2.view_is ∙ c.in-Ok.ensures.ok) c.renew.ensures)
 
 pub returns-clause-live : goal.returns-clause-live

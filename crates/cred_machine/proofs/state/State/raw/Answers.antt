@@ -1,7 +1,7 @@
 use Rattle.std.proofs.Common.{sym}
 use Rattle.cred_event.specs.declared.answer.Answer.TheVariants.{Busy}
 use Rattle.cred_plain.specs.Creds.{seen_numbered}
-use Rattle.cred_machine.proofs.Alone.{can_call, calls, raw_busy, raw_einval, raw_eperm}
+use Rattle.cred_machine.proofs.Alone.{can_call, calls, raw_busy, raw_refused}
 use Rattle.cred_machine.proofs.Begins.{same_answer}
 use Rattle.cred_machine.proofs.Leads.{idle_in}
 use Rattle.cred_machine.proofs.Seen.{seen_state, seen_task}
@@ -16,25 +16,15 @@ returns-in-Some-open_in-clause-ok c =
     (rw (← c.owner.view_is) at (sym c.in-Some.ensures)) (sym c.in-Some-get.ensures) (Busy c.in-Some-open_in.broadcast)
     (idle_in s _ o.process _ c.deref.ensures.value c.in-Some-open_in.ensures))
 
-pub returns-in-Err-Perm-clause-ok : goal.returns-in-Err-Perm-clause-ok
-returns-in-Err-Perm-clause-ok c =
+pub returns-in-Err-clause-ok : goal.returns-in-Err-clause-ok
+returns-in-Err-clause-ok c =
     let s = seen_state c.self.inside in
     let o = seen_task c.owner.inside in
     let old = seen_numbered c.in-Some-get.old in
     let can = can_call s c.args.task o _ old _ c.in-Some.ensures c.owner.view_is c.in-Some-get.ensures c.deref.ensures.value
     c.in_default-open_in.ensures c.in_default-overridden.ensures in
-    let rule = rw c.in-Err-Perm.field-0-is at c.in-Err-Perm.ensures in
-    rw (← c.self.view_is) (raw_eperm s c.args.task c.args.call.now o old can rule)
-
-pub returns-in-Err-Invalid-clause-ok : goal.returns-in-Err-Invalid-clause-ok
-returns-in-Err-Invalid-clause-ok c =
-    let s = seen_state c.self.inside in
-    let o = seen_task c.owner.inside in
-    let old = seen_numbered c.in-Some-get.old in
-    let can = can_call s c.args.task o _ old _ c.in-Some.ensures c.owner.view_is c.in-Some-get.ensures c.deref.ensures.value
-    c.in_default-open_in.ensures c.in_default-overridden.ensures in
-    let rule = rw c.in-Err-Invalid.field-0-is at c.in-Err-Invalid.ensures in
-    rw (← c.self.view_is) (raw_einval s c.args.task c.args.call.now o old can rule)
+    rw (← c.self.view_is)
+    (raw_refused s c.args.task c.args.call.now o old can c.refusal_answer.result c.in-Err.refusal c.in-Err.ensures c.refusal_answer.ensures.answer)
 
 pub returns-clause-ok : goal.returns-clause-ok
 returns-clause-ok c =

@@ -1,8 +1,8 @@
-use Rattle.std.proofs.Common.{◌∙◌, ℕ, List, ap}
+use Rattle.std.proofs.Common.{◌∙◌, ℕ, List, reverse, ap}
+use Rattle.std.proofs.lemmas.List.{reverse-reverse}
 use Rattle.std.proofs.lemmas.List.Sorted.{IsNonDecreasingBy-from_sort}
-use Rattle.cred_ids.specs.Ordered.{in_order}
-use Rattle.cred_ids.proofs.InOrder.{in_order-is}
 use Rattle.cred_model.specs.State.{Broadcast}
+use Rattle.cred_plain.proofs.Falling.{sorted_is}
 use Rattle.cred_plain.proofs.casts.Cast.join.Goals as goal
 
 pub returns-clause-ok : goal.returns-clause-ok
@@ -17,5 +17,7 @@ returns-clause-ok c =
     } in
     rw (← c.self.view_is)
     (ap with_waiting
-    (in_order-is _ _ c.sort_unstable.ensures.permutation (IsNonDecreasingBy-from_sort (λ x. x) _ c.sort_unstable.ensures.sorted)
-    ∙ ap in_order c.in_ok-push.ensures.items))
+    (ap reverse c.reverse.ensures.items
+    ∙ reverse-reverse _
+    ∙ sorted_is c.self.inside.falling.items _ _ c.args.task c.in_ok-push.ensures.items c.sort_unstable.ensures.permutation
+    (IsNonDecreasingBy-from_sort (λ x. x) _ c.sort_unstable.ensures.sorted)))

@@ -1,6 +1,7 @@
-use Rattle.std.proofs.Common.{ℕ, ◌==◌, not, List, ap, rules}
+use Rattle.std.proofs.Common.{ℕ, ◌==◌, ◌∙◌, not, List, reverse, ap, rules}
 use Rattle.std.proofs.lemmas.Fn.{filter_same}
 use Rattle.cred_model.specs.State.{Broadcast}
+use Rattle.cred_plain.proofs.Falling.{kept_turned}
 use Rattle.cred_plain.proofs.casts.Cast.leave.Goals as goal
 
 pub returns : goal.returns
@@ -13,5 +14,7 @@ returns c =
       call = c.self.inside.call;
       waiting = w;
     } in
+    let stays = λ (n : ℕ). not (n == c.args.task) in
     rw (← c.self.view_is)
-    (ap with_waiting (filter_same _ (λ (n : ℕ). not (n == c.args.task)) _ (λ x b f' k. search rules) _ _ c.retain.ensures.filtered))
+    (ap (λ (ns : List ℕ). with_waiting (reverse ns)) (filter_same _ stays _ (λ x b f' k. search rules) _ _ c.retain.ensures.filtered)
+    ∙ ap with_waiting (kept_turned stays c.self.inside.falling.items))

@@ -1,5 +1,4 @@
-use Rattle.std.proofs.Common.{◌∙◌, refl, sym, ap}
-use Rattle.cred_model.specs.State.{Task}
+use Rattle.std.proofs.Common.{refl}
 use Rattle.cred_plain.proofs.Stands.{current_at}
 use Rattle.cred_plain.proofs.tasks.Tasks.set_current_at.Goals as goal
 

@@ -1,0 +1,4 @@
+pub mod Bounds
+pub mod IdCalls
+pub mod Adjusts
+pub mod Execves
