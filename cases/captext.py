@@ -6,8 +6,10 @@ expression of what may follow (Brzozowski). The bytes of which nothing may follo
 expression is narrower than the page: names are in small letters and no numbers, `all` stands alone
 in its list, and one space stands between two clauses and nowhere else (docs/DECISIONS.md).
 """
+import re
 import sys
 from functools import lru_cache
+from typing import Any
 
 import suite
 
@@ -19,16 +21,20 @@ NAMES = [f"cap_{it.lower()}" for it in CAPABILITIES]
 FULL = (1 << len(NAMES)) - 1
 
 # ---- regular expressions: nothing, the empty text, a byte, one of two, one behind the other, many
-NOTHING, EMPTY = ("nothing",), ("empty",)
+# Its kind, and what it is made of: a byte, or others.
+Form = tuple[Any, ...]
+NOTHING: Form = ("nothing",)
+EMPTY: Form = ("empty",)
 
 
-def either(*parts):
+def either(*parts: Form) -> Form:
     """One of these. What stands twice counts once, so that derivatives stay few."""
-    flat = {that for it in parts for that in (it[1] if it[0] == "either" else (it,))} - {NOTHING}
+    flat: set[Form] = {that for it in parts for that in (it[1] if it[0] == "either" else (it,))}
+    flat -= {NOTHING}
     return NOTHING if not flat else flat.pop() if len(flat) == 1 else ("either", frozenset(flat))
 
 
-def behind(*parts):
+def behind(*parts: Form) -> Form:
     """One behind the other."""
     if NOTHING in parts:
         return NOTHING
@@ -39,22 +45,22 @@ def behind(*parts):
     return ("behind", first, behind(*others)) if others else first
 
 
-def many(part):
+def many(part: Form) -> Form:
     """Any number of these."""
     return ("many", part)
 
 
-def some(part):
+def some(part: Form) -> Form:
     """At least one of these."""
     return behind(part, many(part))
 
 
-def word(text):
+def word(text: str) -> Form:
     return behind(*(("byte", it) for it in text))
 
 
 @lru_cache(None)
-def may_end(it):
+def may_end(it: Form) -> bool:
     """The empty text is one of these."""
     kind = it[0]
     return (
@@ -65,7 +71,7 @@ def may_end(it):
 
 
 @lru_cache(None)
-def after(it, byte):
+def after(it: Form, byte: str) -> Form:
     """What may follow this byte."""
     kind = it[0]
     if kind == "byte":
@@ -98,7 +104,7 @@ CLAUSE = either(behind(LIST, some(ACTION)), behind(RESET, many(ACTION)))
 TEXT = behind(CLAUSE, many(behind(word(" "), CLAUSE)))
 
 
-def longest(text):
+def longest(text: str) -> tuple[int, bool]:
     """How many bytes of these some text begins with, and whether all of them are one."""
     rest = TEXT
     for place, byte in enumerate(text):
@@ -111,24 +117,19 @@ def longest(text):
 # ---- what a text says
 
 
-def listed(names):
+def listed(names: str) -> int:
     """The capabilities of a list. "The special name 'all' specifies all capabilities"."""
     return FULL if names in ("", "all") else sum({1 << NAMES.index(it) for it in names.split(",")})
 
 
-def split(clause):
+def split(clause: str) -> tuple[str, list[tuple[str, str]]]:
     """The list of a clause, and its actions."""
     start = min(it for it in map(clause.find, "=+-") if it >= 0)
-    actions = []
-    for byte in clause[start:]:
-        if byte in "=+-":
-            actions.append([byte, ""])
-        else:
-            actions[-1][1] += byte
+    actions = [(it[0], it[1:]) for it in re.findall("[=+-][^=+-]*", clause[start:])]
     return clause[:start], actions
 
 
-def sets(text):
+def sets(text: str) -> tuple[int, int, int]:
     """The sets E, P and I. "the set starts out with all capabilities lowered, and the meaning of
     the string is the state of the capability set after all the clauses have been applied in
     order."
@@ -149,14 +150,14 @@ def sets(text):
     return said["e"], said["p"], said["i"]
 
 
-def attribute(permitted, inheritable, effective):
+def attribute(permitted: int, inheritable: int, effective: bool) -> bytes:
     """The bytes of an attribute of version 2: "VFS_CAP_REVISION_2", two words for each set."""
     words = [2 << 24 | effective]
     words += [it >> half & 0xFFFFFFFF for half in (0, 32) for it in (permitted, inheritable)]
     return b"".join(it.to_bytes(4, "little") for it in words)
 
 
-def line(text):
+def line(text: str) -> str:
     """What `encode` writes for a text."""
     length, whole = longest(text)
     if not whole:
@@ -171,11 +172,11 @@ def line(text):
 # ---- how one is written
 
 
-def names_of(caps):
+def names_of(caps: int) -> str:
     return ",".join(it for number, it in enumerate(NAMES) if caps >> number & 1)
 
 
-def printed(permitted, inheritable, effective):
+def printed(permitted: int, inheritable: int, effective: bool) -> str:
     """The text of an attribute, of at most three clauses (docs/RULES.md)."""
     parts = (
         (permitted & ~inheritable, "p"),
@@ -186,6 +187,6 @@ def printed(permitted, inheritable, effective):
     return " ".join(f"{names_of(it)}={flag}{letters}" for it, letters in parts if it) or "="
 
 
-def case(name, text):
+def case(name: str, text: str) -> suite.Case:
     """What `encode` must write for a text, which is one word of a command line."""
     return suite.Case(name, ("encode", text), suite.UNREAD, line(text).encode())

@@ -7,6 +7,7 @@ file stands then.
 from dataclasses import dataclass, replace
 
 from processes import ALL, NO_SETUID_FIXUP
+from reports import Script
 
 CAP_CHOWN, CAP_FOWNER, CAP_FSETID, CAP_SETFCAP = 0, 3, 4, 31
 S_ISUID, S_ISGID, S_IXGRP, S_IXOTH, EXECUTE = 0o4000, 0o2000, 0o0010, 0o0001, 0o0111
@@ -27,16 +28,16 @@ class Process:
     fsuid: int
     fsgid: int
     supplementary: int
-    capabilities: frozenset = frozenset()
+    capabilities: frozenset[int] = frozenset()
 
-    def has(self, capability):
+    def has(self, capability: int) -> bool:
         return capability in self.capabilities
 
-    def is_in(self, group):
+    def is_in(self, group: int) -> bool:
         """A member of the group."""
         return group in (self.fsgid, self.supplementary)
 
-    def effective(self):
+    def effective(self) -> int:
         return sum(1 << it for it in self.capabilities)
 
 
@@ -50,17 +51,17 @@ class File:
     mode: int
     attribute: bool
 
-    def declared(self, name):
+    def declared(self, name: str) -> str:
         """The line that declares it."""
         caps = f" caps {NET_RAW}" if self.attribute else ""
         return f"file {name} {self.kind} {self.owner} {self.group} {self.mode:04o}{caps}"
 
-    def told(self):
+    def told(self) -> str:
         """What `stat` answers."""
         return f"ok {self.owner} {self.group} {self.mode:04o} {self.attribute:d}"
 
 
-def chown(process, file, owner, group):
+def chown(process: Process, file: File, owner: int, group: int) -> tuple[str, File]:
     """chown(2): the answer, and the file then."""
     # "If the owner or group is specified as -1, then that ID is not changed."
     owners, groups = owner in (KEEP, file.owner), group in (KEEP, file.group)
@@ -88,7 +89,7 @@ def chown(process, file, owner, group):
     return "ok", replace(then, mode=file.mode & ~cleared, attribute=False)
 
 
-def chmod(process, file, mode):
+def chmod(process: Process, file: File, mode: int) -> tuple[str, File]:
     """chmod(2): the answer, and the file then."""
     # "The effective UID of the calling process must match the owner of the file, or the process
     # must be privileged (Linux: it must have the CAP_FOWNER capability)." "Linux uses the fsuid
@@ -104,7 +105,7 @@ def chmod(process, file, mode):
     return "ok", replace(file, mode=mode)
 
 
-def setattr_(process, file, given, is_one=True):
+def setattr_(process: Process, file: File, given: bool, is_one: bool = True) -> tuple[str, File]:
     """setxattr(2) of an attribute, or removexattr(2): the answer, and the file then."""
     # "Writing to this extended attribute requires the CAP_SETFCAP capability." (capabilities(7))
     if not process.has(CAP_SETFCAP):
@@ -114,7 +115,7 @@ def setattr_(process, file, given, is_one=True):
     return "ok", replace(file, attribute=given)
 
 
-def make(script, process, task=2):
+def make(script: Script, process: Process, task: int = 2) -> None:
     """Makes a child of root this process. Its other ids are of no file."""
     script.fork(1, task, task)
     script.ids(task, f"setgroups {process.supplementary}")
@@ -125,14 +126,14 @@ def make(script, process, task=2):
     script.changes(task, f"capset {ALL:x} 0 {process.effective():x}")
 
 
-def begin(script, files):
+def begin(script: Script, files: dict[str, File]) -> None:
     """Declares files, and a first task whose sets stay as its ids change."""
     script.declares(*(file.declared(name) for name, file in files.items()))
     script.init(1, 1, 0, 0)
     script.changes(1, f"securebits {NO_SETUID_FIXUP}")
 
 
-def calls(script, task, call, name, rest, answer):
+def calls(script: Script, task: int, call: str, name: str, rest: str, answer: str) -> None:
     """A call on a file."""
     words = " ".join(it for it in (name, rest) if it)
     script.line(f"t{task} {call} {words}")
@@ -142,7 +143,7 @@ def calls(script, task, call, name, rest, answer):
     script.entry(f"drop {held}", "ok")
 
 
-def stranger(script, task=3):
+def stranger(script: Script, task: int = 3) -> None:
     """Makes a child of root a process without capabilities, to whom no file belongs."""
     script.fork(1, task, task)
     script.ids(task, f"setresgid {STRANGER} {STRANGER} {STRANGER}")
@@ -150,7 +151,7 @@ def stranger(script, task=3):
     script.changes(task, "capset 0 0 0")
 
 
-def executed(file, gives):
+def executed(file: File, gives: tuple[int, bool]) -> tuple[int, int, int, int] | None:
     """The effective user and group, and what is permitted and effective, once the stranger has
     executed the file; none where it may not.
     """
@@ -174,7 +175,14 @@ def executed(file, gives):
     )
 
 
-def executes(script, name, file, gives=GIVES, task=3, child=4):
+def executes(
+    script: Script,
+    name: str,
+    file: File,
+    gives: tuple[int, bool] = GIVES,
+    task: int = 3,
+    child: int = 4,
+) -> None:
     """A child of the stranger executes the file as it stands, and is asked what it is then."""
     script.fork(task, child, child)
     then = executed(file, gives)
@@ -189,7 +197,16 @@ def executes(script, name, file, gives=GIVES, task=3, child=4):
     script.exit(child)
 
 
-def tries(script, name, before, call, rest, answer, then, gives=GIVES):
+def tries(
+    script: Script,
+    name: str,
+    before: File,
+    call: str,
+    rest: str,
+    answer: str,
+    then: File,
+    gives: tuple[int, bool] = GIVES,
+) -> None:
     """The file is asked for, the process makes its call, and the file is asked for again and
     executed.
     """

@@ -2,6 +2,7 @@
 
 A generator says which processes ask, and how they came to be. Here is what each is granted.
 """
+from collections.abc import Iterator
 from dataclasses import dataclass
 
 # What each octal digit of a mode permits: "read (4), write (2), and execute (1)" (chmod(1)). To
@@ -31,20 +32,20 @@ class File:
     owner: int
     group: int
 
-    def name(self):
+    def name(self) -> str:
         """Its name in a script."""
         return f"{self.kind}{self.mode:03o}-u{self.owner}"
 
-    def declared(self):
+    def declared(self) -> str:
         """The line that declares it."""
         return f"file {self.name()} {self.kind} {self.owner} {self.group} 0{self.mode:03o}"
 
-    def digits(self):
+    def digits(self) -> list[set[str]]:
         """What the owner may, the group, and the others."""
         return [DIGITS[self.mode >> shift & 7] for shift in (6, 3, 0)]
 
 
-def by_bits(process, file):
+def by_bits(process: Process, file: File) -> set[str]:
     """What the bits grant."""
     owner, group, others = file.digits()
     # "The first group of three is used when the effective user ID of the calling process equals
@@ -62,7 +63,7 @@ def by_bits(process, file):
     return others
 
 
-def by_override(file):
+def by_override(file: File) -> set[str]:
     """What CAP_DAC_OVERRIDE grants."""
     # "The CAP_DAC_OVERRIDE capability overrides all permission checking, but grants execute
     # permission only when at least one of the file's three execute permission bits is set." It is
@@ -72,14 +73,14 @@ def by_override(file):
     return DIGITS[7] if file.kind == "dir" or executable else DIGITS[6]
 
 
-def by_read_search(file):
+def by_read_search(file: File) -> set[str]:
     """What CAP_DAC_READ_SEARCH grants."""
     # "The CAP_DAC_READ_SEARCH capability grants read and search permission on directories, and read
     # permission on ordinary files."
     return DIGITS[5] if file.kind == "dir" else DIGITS[4]
 
 
-def granted(process, file):
+def granted(process: Process, file: File) -> Iterator[set[str]]:
     """What is granted at once, by the bits or by one capability: all that is asked has to be among
     what one of these grants, since the kernel asks for the whole mask each time (fs/namei.c).
     """
@@ -90,7 +91,7 @@ def granted(process, file):
         yield by_read_search(file)
 
 
-def told(process, file, letters):
+def told(process: Process, file: File, letters: str) -> str:
     """The answer to a check for all of these."""
     asked = ASKED[letters]
     return "ok" if any(asked <= it for it in granted(process, file)) else "eacces"

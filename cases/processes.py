@@ -4,9 +4,12 @@ A page's generator says what one call makes of one process, in the page's senten
 process makes every such call in a child of its own, and is then asked for its ids and its
 capability sets: in the initial user namespace, and in one whose root is another user.
 """
+from collections.abc import Callable, Iterator, Sequence
 from dataclasses import dataclass, replace
 from itertools import islice, product
+from typing import Any
 
+import suite
 from reports import LINES, Script
 
 IDS = (0, 1, 2)
@@ -35,9 +38,9 @@ class Namespace:
 
     number: int
     root: int
-    ids: tuple
+    ids: tuple[int, ...]
 
-    def declared(self):
+    def declared(self) -> list[str]:
         """The line that declares it, if one does: the initial one is there."""
         return [f"ns {self.number} {self.root} 0"] if self.number else []
 
@@ -54,7 +57,7 @@ class Setting:
     namespace: Namespace = INITIAL
     securebits: int = 0
 
-    def told(self):
+    def told(self) -> str:
         """How the name of a case tells it."""
         place = f" in n{self.namespace.number}" if self.namespace.number else ""
         return place + (f", with securebits {self.securebits}" if self.securebits else "")
@@ -72,6 +75,14 @@ class Refused(Exception):
     """A call is refused, with this error."""
 
 
+# Whether a capability is permitted, inheritable, effective, in the bounding set and ambient.
+Way = tuple[bool, bool, bool, bool, bool]
+# The name of a call and its ids.
+Words = Sequence[str | int]
+# What a page says that a call makes of a process.
+Page = Callable[..., Any]
+
+
 @dataclass(frozen=True)
 class Process:
     """A process, as the pages speak of it: its user ids or its group ids.
@@ -85,7 +96,7 @@ class Process:
     fs: int
     privileged: bool
 
-    def ids(self):
+    def ids(self) -> str:
         """The four ids, as a report has them."""
         return f"{self.real} {self.effective} {self.saved} {self.fs}"
 
@@ -98,7 +109,7 @@ class Sets:
     effective: int
     ambient: int
 
-    def told(self):
+    def told(self) -> str:
         """The five sets, as a report has them."""
         return f"ok {self.permitted:x} {RAW:x} {self.effective:x} {ALL:x} {self.ambient:x}"
 
@@ -112,7 +123,7 @@ class Kind:
     capability: int
     user: bool
 
-    def told(self, process, root):
+    def told(self, process: Process, root: int) -> str:
         """The eight ids, of which the other four are those of root's task."""
         if self.user:
             return f"ok {process.ids()} 0 0 0 0"
@@ -123,7 +134,7 @@ USERS = Kind("setresuid", "setfsuid", 7, True)
 GROUPS = Kind("setresgid", "setfsgid", 6, False)
 
 
-def ways():
+def ways() -> Iterator[Way]:
     """The ways to have a capability, as whether it is permitted, inheritable, effective, in the
     bounding set and ambient: what is effective is permitted, and what is ambient is permitted and
     inheritable.
@@ -133,13 +144,13 @@ def ways():
             yield permitted, inheritable, effective, bounding, ambient
 
 
-def processes(ids=IDS):
+def processes(ids: tuple[int, ...] = IDS) -> Iterator[Process]:
     """Each process with these ids, privileged or not."""
-    for privileged, *its in product((False, True), ids, ids, ids, ids):
-        yield Process(*its, privileged)
+    for privileged, real, effective, saved, fs in product((False, True), ids, ids, ids, ids):
+        yield Process(real, effective, saved, fs, privileged)
 
 
-def followed(process):
+def followed(process: Process) -> Process:
     """setfsuid(2): "whenever a process's effective user ID is changed, the kernel also changes the
     filesystem user ID to be the same as the new value of the effective user ID", and setresuid(2):
     "Regardless of what changes are made [..]".
@@ -147,12 +158,12 @@ def followed(process):
     return replace(process, fs=process.effective)
 
 
-def held(process, kind):
+def held(process: Process, kind: Kind) -> Sets:
     """The sets of a process before its call."""
     return Sets(ALL, ALL if process.privileged else ALL & ~(1 << kind.capability), RAW)
 
 
-def sets_after(old, new, sets, setting):
+def sets_after(old: Process, new: Process, sets: Sets, setting: Setting) -> Sets:
     """The sets after a change of user ids: capabilities(7), "Effect of user ID changes on
     capabilities".
     """
@@ -184,7 +195,7 @@ def sets_after(old, new, sets, setting):
     return sets
 
 
-def sets_after_fs(old, new, sets, setting):
+def sets_after_fs(old: Process, new: Process, sets: Sets, setting: Setting) -> Sets:
     """The sets after setfsuid(2), by the same section."""
     root = setting.namespace.root
     if setting.securebits & NO_SETUID_FIXUP:
@@ -204,7 +215,7 @@ def sets_after_fs(old, new, sets, setting):
 ROOT, TASK, CHILD = 1, 2, 3
 
 
-def begun(namespace):
+def begun(namespace: Namespace) -> Script:
     """A script with a task of the namespace's root, whose children keep their permitted set when
     they leave root.
     """
@@ -215,7 +226,7 @@ def begun(namespace):
     return script
 
 
-def make(script, process, kind, setting):
+def make(script: Script, process: Process, kind: Kind, setting: Setting) -> None:
     """Makes root's child this process."""
     script.fork(ROOT, TASK, 2)
     ids = process.real, process.effective, process.saved
@@ -228,14 +239,16 @@ def make(script, process, kind, setting):
     script.changes(TASK, f"capset {ALL:x} {RAW:x} {held(process, kind).effective:x}")
 
 
-def shown(script, kind, process, sets, setting):
+def shown(script: Script, kind: Kind, process: Process, sets: Sets, setting: Setting) -> None:
     """Asks the child for what it is, and ends it."""
     script.asks(CHILD, "ids", kind.told(process, setting.namespace.root))
     script.asks(CHILD, "caps", sets.told())
     script.exit(CHILD)
 
 
-def tries_ids(script, process, kind, page, words, setting):
+def tries_ids(
+    script: Script, process: Process, kind: Kind, page: Page, words: Words, setting: Setting
+) -> None:
     """A child makes a call that sets ids: what the page says must come of it."""
     name, *arguments = words
     script.fork(TASK, CHILD, 3)
@@ -252,7 +265,9 @@ def tries_ids(script, process, kind, page, words, setting):
     shown(script, kind, new, sets, setting)
 
 
-def tries_fs(script, process, kind, page, words, setting):
+def tries_fs(
+    script: Script, process: Process, kind: Kind, page: Page, words: Words, setting: Setting
+) -> None:
     """A child sets its filesystem id: what the page says must come of it."""
     name, argument = words
     script.fork(TASK, CHILD, 3)
@@ -263,10 +278,16 @@ def tries_fs(script, process, kind, page, words, setting):
     shown(script, kind, new, sets, setting)
 
 
-def rows(setting, name, width, kind, page, tries):
+# What a child does of a call, by a page.
+Tries = Callable[[Script, Process, Kind, Page, Words, Setting], None]
+
+
+def rows(
+    setting: Setting, name: str, width: int, kind: Kind, page: Page, tries: Tries
+) -> Iterator[suite.Case]:
     """Every call of this name, which takes so many ids, by every process of this setting."""
     ids = setting.namespace.ids
-    calls = [(name, *its) for its in product((NONE, *ids), repeat=width)]
+    calls: list[Words] = [[name, *its] for its in product((NONE, *ids), repeat=width)]
     # A process takes nine lines to make and to end, and each of its calls five.
     room = LINES // (5 * len(calls) + 10)
     left = processes(ids)
@@ -283,7 +304,9 @@ def rows(setting, name, width, kind, page, tries):
         yield script.case(told, len(some) * len(calls))
 
 
-def table(name, width, kind, page, tries=tries_ids):
+def table(
+    name: str, width: int, kind: Kind, page: Page, tries: Tries = tries_ids
+) -> Iterator[suite.Case]:
     """The rows of this call in every setting. No securebit is about group ids."""
     for setting in SETTINGS:
         if kind.user or not setting.securebits:

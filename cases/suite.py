@@ -6,8 +6,11 @@ whose expected answers it works out by itself, from the manual page's words.
 import importlib.util
 import os
 import re
-from dataclasses import dataclass
+from collections.abc import Callable, Iterator
+from dataclasses import dataclass, replace
 from pathlib import Path
+from types import ModuleType
+from typing import Any
 
 TOP = Path(__file__).resolve().parent
 # The status where the words are no command.
@@ -31,51 +34,51 @@ class Case:
     """
 
     name: str
-    words: tuple
+    words: tuple[str, ...]
     given: bytes = b""
     written: bytes | None = None
-    entries: tuple = ()
-    reports: tuple = ()
+    entries: tuple[bytes, ...] = ()
+    reports: tuple[bytes, ...] = ()
     status: int | None = None
     calls: int = 1
     runs: int = 1
 
-    def ends(self):
+    def ends(self) -> int:
         """The status that the program must end with."""
         return status_of(self.written or b"") if self.status is None else self.status
 
 
-def script(name, text, report=None, **more):
+def script(name: str, text: str, report: str | None = None, **more: Any) -> Case:
     """A script that `run` must report so: what most generators yield."""
     return Case(name, ("run",), text.encode(), None if report is None else report.encode(), **more)
 
 
-def status_of(text):
+def status_of(text: bytes) -> int:
     """The status that goes with a text."""
     return next((status for begin, status in STATUSES.items() if text.startswith(begin)), 0)
 
 
-def ended(line):
+def ended(line: bytes) -> bytes:
     """A text with its last line feed, which a row leaves out."""
     return line + b"\n" if line else b""
 
 
-def unescaped(text):
+def unescaped(text: bytes) -> bytes:
     """The bytes that a row spells."""
     return ESCAPE.sub(lambda it: bytes.fromhex(it[1].decode()) if it[1] else ESCAPES[it[2]], text)
 
 
-def rows(file):
+def rows(file: Path) -> Iterator[tuple[bytes, bytes]]:
     """The rows of a file: what stands before the arrow, and what stands behind it."""
     for line in file.read_bytes().splitlines():
         if line and not line.startswith(b";"):
             given, arrow, written = line.partition(b" =>")
             if not arrow:
-                raise ValueError(f"{file}: a row without an arrow: {line}")
+                raise ValueError(f"{file}: a row without an arrow: {line!r}")
             yield unescaped(given), ended(unescaped(written.removeprefix(b" ")))
 
 
-def of_script(file, name):
+def of_script(file: Path, name: str) -> Iterator[Case]:
     """The case of a script, whose report or entries stand beside it."""
     report, entries, turns = (file.with_suffix(it) for it in (".report", ".entries", ".turns"))
     yield Case(
@@ -88,33 +91,44 @@ def of_script(file, name):
     )
 
 
-def of_rows(word):
+# What reads the cases of a file, whose names begin so.
+Reader = Callable[[Path, str], Iterator[Case]]
+
+
+def of_rows(word: str) -> Reader:
     """What reads the cases of a file of rows, each an input of this command."""
 
-    def read(file, name):
+    def read(file: Path, name: str) -> Iterator[Case]:
         for number, (given, written) in enumerate(rows(file), 1):
             yield Case(f"{name}:{number}", (word,), given, written)
 
     return read
 
 
-def of_words(file, name):
+def of_words(file: Path, name: str) -> Iterator[Case]:
     """The cases of a file of rows, each the words of a command line, which may be any bytes."""
     for number, (line, written) in enumerate(rows(file), 1):
         words = tuple(os.fsdecode(it) for it in line.split())
         yield Case(f"{name}:{number}", words, UNREAD, written)
 
 
-def of_generator(file, name):
+def of_generator(file: Path, name: str) -> Iterator[Case]:
     """The cases that a file in Python makes."""
-    spec = importlib.util.spec_from_file_location(name.replace("/", "."), file)
+    for case in module_of(name.replace("/", "."), file).cases():
+        yield replace(case, name=f"{name}:{case.name}")
+
+
+def module_of(name: str, file: Path) -> ModuleType:
+    """A file in Python as a module, whatever its name."""
+    spec = importlib.util.spec_from_file_location(name, file)
+    if spec is None or spec.loader is None:
+        raise ValueError(f"{file} is no module")
     module = importlib.util.module_from_spec(spec)
     spec.loader.exec_module(module)
-    for case in module.cases():
-        yield Case(**{**vars(case), "name": f"{name}:{case.name}"})
+    return module
 
 
-READERS = {
+READERS: dict[str, Reader] = {
     ".trace": of_script,
     ".lines": of_rows("run"),
     ".inputs": of_rows("audit"),
@@ -123,12 +137,12 @@ READERS = {
 }
 
 
-def subjects():
+def subjects() -> list[Path]:
     """The folders of cases, by their names."""
     return sorted(it for it in TOP.iterdir() if (it / "TABLE.md").exists())
 
 
-def cases_of(subject):
+def cases_of(subject: Path) -> Iterator[Case]:
     """The cases of a folder. Its table has each of its files, once, and no other."""
     files = sorted(it for it in subject.iterdir() if it.suffix in READERS)
     told = re.findall(r"^\| `([^`]+)`", (subject / "TABLE.md").read_text(), re.M)

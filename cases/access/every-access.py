@@ -2,13 +2,15 @@
 permitted and what is effective of CAP_DAC_OVERRIDE and CAP_DAC_READ_SEARCH, with NO_SETUID_FIXUP
 and without it; in the initial user namespace and in a container's.
 """
+from collections.abc import Iterator
 from dataclasses import dataclass
 from itertools import product
 
 import checks
 from checks import ASKED, CAP_DAC_OVERRIDE, CAP_DAC_READ_SEARCH, File
-from processes import CONTAINER, INITIAL, NO_SETUID_FIXUP, Setting
+from processes import CONTAINER, INITIAL, NO_SETUID_FIXUP, Namespace, Setting
 from reports import Script
+from suite import Case
 
 ROOT, TASK = 1, 2
 # The group ids of the processes; a user and a group that no process is of.
@@ -23,16 +25,16 @@ class Process:
 
     real: int
     effective: int
-    override: tuple
-    read_search: tuple
+    override: tuple[bool, bool]
+    read_search: tuple[bool, bool]
 
-    def sets(self):
+    def sets(self) -> list[int]:
         """Its permitted and its effective set."""
         ways = zip(self.override, self.read_search)
         return [a << CAP_DAC_OVERRIDE | b << CAP_DAC_READ_SEARCH for a, b in ways]
 
 
-def asker(process, setting):
+def asker(process: Process, setting: Setting) -> checks.Process:
     """The process whose right is asked about."""
     # "For the root user, the check uses the set of permitted capabilities rather than the set of
     # effective capabilities; and for non-root users, the check uses an empty set of capabilities."
@@ -47,10 +49,10 @@ def asker(process, setting):
         used = False, False
     # "The check is done using the calling process's real UID and GID, rather than the effective
     # IDs".
-    return checks.Process(process.real, REAL_GROUP, None, *used)
+    return checks.Process(process.real, REAL_GROUP, REAL_GROUP, *used)
 
 
-def files(namespace):
+def files(namespace: Namespace) -> Iterator[File]:
     """Files of nobody's, of root's, of another user's and of the processes' real group."""
     root, other, _ = namespace.ids
     kinds = (("reg", 0), ("reg", 0o100), ("dir", 0))
@@ -59,7 +61,7 @@ def files(namespace):
     yield File("reg", 0o040, NOBODY, REAL_GROUP)
 
 
-def make(script, process, setting):
+def make(script: Script, process: Process, setting: Setting) -> None:
     """Makes a child of root's this process."""
     script.fork(ROOT, TASK, 2)
     script.ids(TASK, f"setresgid {REAL_GROUP} {EFFECTIVE_GROUP} {EFFECTIVE_GROUP}")
@@ -69,7 +71,7 @@ def make(script, process, setting):
     script.changes(TASK, f"capset {permitted:x} 0 {effective:x}")
 
 
-def table(setting):
+def table(setting: Setting) -> Case:
     """Every process asks for all of every file."""
     namespace, script = setting.namespace, Script()
     its = [*files(namespace)]
@@ -88,7 +90,7 @@ def table(setting):
     return script.case(f"in n{namespace.number}, with securebits {setting.securebits}", calls)
 
 
-def cases():
+def cases() -> Iterator[Case]:
     """The table in each setting."""
     for it in product((INITIAL, CONTAINER), (0, NO_SETUID_FIXUP)):
         yield table(Setting(*it))

@@ -3,11 +3,13 @@
 The processes have a filesystem id that is the file's or isn't, a supplementary group that is or
 isn't, and CAP_DAC_OVERRIDE and CAP_DAC_READ_SEARCH or not. Each is held under a label of its own.
 """
+from collections.abc import Iterator
 from itertools import product
 
 from checks import ASKED, CAP_DAC_OVERRIDE, CAP_DAC_READ_SEARCH, File, Process, told
 from processes import ALL, NO_SETUID_FIXUP
 from reports import Script
+from suite import Case
 
 # The file's owner and group, and another user and group.
 OWNER, GROUP, OTHER = 1, 2, 3
@@ -15,7 +17,7 @@ OWNER, GROUP, OTHER = 1, 2, 3
 FILES = 128
 
 
-def processes():
+def processes() -> Iterator[Process]:
     """The owner, outside of the group and in it; a member by its filesystem group and by a
     supplementary one; and another. Each with the two capabilities or not.
     """
@@ -30,7 +32,7 @@ def processes():
         yield Process(*ids, *capabilities)
 
 
-def make(script, process):
+def make(script: Script, process: Process) -> None:
     """Makes a child of root this process. Its other ids are the file's where its filesystem ids are
     not, and the other way round, and so are of no use to it.
     """
@@ -47,14 +49,14 @@ def make(script, process):
     script.changes(2, f"capset {ALL:x} 0 {effective:x}")
 
 
-def ask(script, label, process, file):
+def ask(script: Script, label: int, process: Process, file: File) -> None:
     """Asks for each way to use the file."""
     for letters in ASKED:
         query = f"check {file.name()} {letters}"
         script.asks_held(label, query, told(process, file, letters))
 
 
-def checks(files):
+def checks(files: list[File]) -> Script:
     """Each process asks for all of each file."""
     script = Script()
     script.declares(*(it.declared() for it in files))
@@ -69,7 +71,7 @@ def checks(files):
     return script
 
 
-def cases():
+def cases() -> Iterator[Case]:
     """All files, some in each script."""
     kinds = product(("reg", "dir"), range(0o1000))
     files = [File(kind, mode, OWNER, GROUP) for kind, mode in kinds]

@@ -3,6 +3,8 @@
 docs/LANES.md: "the setup's lines first, each lane's lines in their order, each once and whole, and
 every answer the one that the rules give in the state which the entries before it lead to".
 """
+from collections.abc import Iterator
+
 from suite import Case
 
 # A task of root and one of a user, each of which is asked in a lane of its own.
@@ -63,14 +65,14 @@ lane 3
 """
 
 
-def audited(name, script, report, wrong=None):
+def audited(name: str, script: str, report: tuple[str, ...], wrong: int | None = None) -> Case:
     """The audit of a report that goes wrong at this entry, or nowhere."""
     given = "".join(f"{line}\n" for line in (script.rstrip("\n"), "report", *report))
     written = "legal\n" if wrong is None else f"not legal {wrong}\n"
     return Case(name, ("audit",), given.encode(), written.encode())
 
 
-def legal():
+def legal() -> Iterator[Case]:
     """The turns that make a report."""
     in_turns = [entry for pair in zip(ONE, TWO) for entry in pair]
     yield audited("lane 1, then lane 2", ASKED, (*SETUP, *ONE, *TWO))
@@ -83,7 +85,7 @@ def legal():
     yield audited("the lines of one lane", TWO_LINES, (INIT, *lines))
 
 
-def wrong():
+def wrong() -> Iterator[Case]:
     """The turns that make none."""
     early = (SETUP[0], ONE[0], SETUP[1], *ONE[1:], *TWO)
     yield audited("before the setup has ended", ASKED, early, 2)
@@ -99,7 +101,7 @@ def wrong():
     yield audited("the lines of a lane change places", TWO_LINES, (INIT, *lines), 2)
 
 
-def apart():
+def apart() -> Iterator[Case]:
     """A lane waits for the setup, whose second line is left after the first. Then the later lane
     may go first, and all through its lines, and each lane ends for itself."""
     setup = (INIT, "2 init t2 p2 0 0 n0 -> ok c1 s1")
@@ -112,7 +114,7 @@ def apart():
     yield audited("lane 2 ends before lane 1", APART, (*setup, *second), 5)
 
 
-def cases():
+def cases() -> Iterator[Case]:
     """All of them."""
     yield from legal()
     yield from wrong()

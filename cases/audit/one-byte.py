@@ -4,6 +4,8 @@ docs/AUDIT.md: "one character of an entry changed: that entry"; "the last line f
 last entry: a line that doesn't end is no entry"; "the last entries cut off: one more than the
 entries that are left"; "there is no `report` line: LINE is one more than the number of lines".
 """
+from collections.abc import Iterator
+
 from suite import Case
 
 # A service that starts as root, becomes a user with one capability, and executes its program.
@@ -62,28 +64,28 @@ REPORT = b"""\
 CHANGED = 9
 
 
-def audited(name, report, written):
+def audited(name: str, report: bytes, written: bytes) -> Case:
     """The audit of this text as the script's report."""
     return Case(name, ("audit",), SCRIPT + b"report\n" + report, written)
 
 
-def changed():
+def changed() -> Iterator[Case]:
     """A digit in place of another byte, the line feeds among them."""
     for place in range(len(b"".join(REPORT.splitlines(True)[:CHANGED]))):
         other = b"1" if REPORT[place : place + 1] == b"0" else b"0"
         text = REPORT[:place] + other + REPORT[place + 1 :]
         entry = REPORT[:place].count(b"\n") + 1
-        yield audited(f"byte {place} is {other}", text, b"not legal %d\n" % entry)
+        yield audited(f"byte {place} is {other!r}", text, b"not legal %d\n" % entry)
 
 
-def cut_off():
+def cut_off() -> Iterator[Case]:
     """The report stops at each of its bytes."""
     for place in range(len(REPORT)):
         entry = REPORT[:place].count(b"\n") + 1
         yield audited(f"{place} bytes", REPORT[:place], b"not legal %d\n" % entry)
 
 
-def cut_off_before():
+def cut_off_before() -> Iterator[Case]:
     """The input stops at each byte of the script and of the line `report`, whose line feed it may
     lack."""
     given = SCRIPT + b"report"
@@ -94,7 +96,7 @@ def cut_off_before():
     yield Case("no report", ("audit",), given, b"not legal 1\n")
 
 
-def cases():
+def cases() -> Iterator[Case]:
     """The report, and the texts that are none."""
     yield audited("the report", REPORT, b"legal\n")
     yield from changed()

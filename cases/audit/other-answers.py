@@ -3,6 +3,8 @@
 docs/AUDIT.md: "an entry left out, put in, or moved up: the first line that is not what stands there
 in the script's own report"; "the last entries cut off: one more than the entries that are left".
 """
+from collections.abc import Iterator
+
 from suite import Case
 
 # A root task that becomes another user.
@@ -70,24 +72,24 @@ STALE_REPORT = (
 )
 
 
-def audited(name, script, report, wrong=None):
+def audited(name: str, script: str, report: tuple[str, ...], wrong: int | None = None) -> Case:
     """The audit of a report that goes wrong at this entry, or nowhere."""
     given = "".join(f"{line}\n" for line in (script.rstrip("\n"), "report", *report))
     written = "legal\n" if wrong is None else f"not legal {wrong}\n"
     return Case(name, ("audit",), given.encode(), written.encode())
 
 
-def with_entry(report, number, entry):
+def with_entry(report: tuple[str, ...], number: int, entry: str) -> tuple[str, ...]:
     """The report with another entry of this number."""
     return (*report[: number - 1], entry, *report[number:])
 
 
-def without(report, number):
+def without(report: tuple[str, ...], number: int) -> tuple[str, ...]:
     """The report without the entry of this number."""
     return (*report[: number - 1], *report[number:])
 
 
-def of_a_user():
+def of_a_user() -> Iterator[Case]:
     """Of a task that leaves root."""
     keeps = with_entry(USER_REPORT, 4, "3 ask h100030 caps -> ok 1 0 0 1ffffffffff 0")
     yield audited("a user", USER, USER_REPORT)
@@ -96,7 +98,7 @@ def of_a_user():
     yield audited("one in the middle is missing", USER, without(USER_REPORT, 4), 4)
 
 
-def of_threads():
+def of_threads() -> Iterator[Case]:
     """Of a thread that is created while its creator waits."""
     alone = ("6 act 4 -> ok t2 c2 s2 left 1", "7 act 4 -> ok t3 c3 s3 left 0")
     would_not_wait = (*SPAWNED_REPORT[:5], *alone, "8 act 4 -> no broadcast 4")
@@ -106,7 +108,7 @@ def of_threads():
     yield audited("they would follow in another order", SPAWNED, other_order, 6)
 
 
-def of_commits():
+def of_commits() -> Iterator[Case]:
     """Of a commit that comes too late."""
     kept_slot = "5 begin t1 setresuid 0 0 0 -> ok c1 s1 left 0"
     committed = "6 commit h2 -> ok c2 s1"
@@ -115,7 +117,7 @@ def of_commits():
     yield audited("it would be in time", STALE, with_entry(STALE_REPORT, 6, committed), 6)
 
 
-def cases():
+def cases() -> Iterator[Case]:
     """All of them."""
     yield from of_a_user()
     yield from of_threads()

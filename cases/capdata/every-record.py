@@ -4,6 +4,8 @@ and each bit of a set.
 The sources are capset(2), "Current details", and the structures of linux/capability.h. What each
 says is quoted beside the line that follows it.
 """
+from collections.abc import Iterator
+
 from suite import UNREAD, Case
 
 # "#define _LINUX_CAPABILITY_VERSION_1 0x19980330", and likewise _VERSION_2 0x20071026 and
@@ -20,14 +22,21 @@ FULL = (1 << LAST + 1) - 1
 LOW = 0xFFFFFFFF
 
 
-def spelt(word, target, effective, permitted, inheritable, groups=(0, 32)):
+def spelt(
+    word: int,
+    target: int,
+    effective: int,
+    permitted: int,
+    inheritable: int,
+    groups: tuple[int, ...] = (0, 32),
+) -> bytes:
     """The bytes of a record: `hdrp`, and `datap[0]` before `datap[1]`."""
     words = [word, target]
     words += [it >> half & LOW for half in groups for it in (effective, permitted, inheritable)]
     return b"".join(it.to_bytes(4, "little") for it in words)
 
 
-def said(version, target, effective, permitted, inheritable):
+def said(version: int, target: int, effective: int, permitted: int, inheritable: int) -> str:
     """The line that a record is written as: bits above CAP_LAST_CAP say nothing."""
     cut = FULL if version > 1 else LOW
     effective, permitted, inheritable = (it & cut for it in (effective, permitted, inheritable))
@@ -36,7 +45,7 @@ def said(version, target, effective, permitted, inheritable):
     return f"version {version} target {target} {sets} v3 {third}\n"
 
 
-def told(data):
+def told(data: bytes) -> str:
     """What `capdata` writes for these bytes."""
     # Fewer bytes than the header have no version.
     if len(data) < 8:
@@ -55,11 +64,11 @@ def told(data):
     return said(version, target, *sets)
 
 
-def case(name, data):
+def case(name: str, data: bytes) -> Case:
     return Case(name, ("capdata", data.hex()), UNREAD, told(data).encode())
 
 
-def lengths():
+def lengths() -> Iterator[Case]:
     """Every length under every version and none, with other bytes behind."""
     for version, word in [*WORDS.items(), (0, 0)]:
         whole = spelt(word, 7, 1 << 13, 1 << 13 | 1 << 40, 1 << 5) + bytes(range(1, 9))
@@ -67,7 +76,7 @@ def lengths():
             yield case(f"{length}-bytes-version-{version}", whole[:length])
 
 
-def versions():
+def versions() -> Iterator[Case]:
     """Each word of a version, those next to it, and it with each of its bits the other way."""
     for version, word in WORDS.items():
         near = [word, word - 1, word + 1, *(word ^ 1 << bit for bit in range(32))]
@@ -78,7 +87,7 @@ def versions():
                 yield case(f"version-{version}-word-{other:x}-of-{size}", data)
 
 
-def targets():
+def targets() -> Iterator[Case]:
     """Any number is a target: whom a call may be about is not the record's."""
     for version, word in WORDS.items():
         for target in (0, 1, 2, 99999, 0x7FFFFFFF, 0x80000000, LOW):
@@ -86,18 +95,18 @@ def targets():
             yield case(f"version-{version}-target-{target}", data)
 
 
-def bits():
+def bits() -> Iterator[Case]:
     """Each bit of each word by itself, also those that no capability has."""
     for version, word in WORDS.items():
         for at, name in enumerate(("effective", "permitted", "inheritable")):
             for bit in range(32 * len(GROUPS[version])):
                 sets = [0, 0, 0]
                 sets[at] = 1 << bit
-                data = spelt(word, 0, *sets, GROUPS[version])
+                data = spelt(word, 0, sets[0], sets[1], sets[2], GROUPS[version])
                 yield case(f"version-{version}-{name}-{bit}", data)
 
 
-def again():
+def again() -> Iterator[Case]:
     """The record of version 3 that a line ends with says the same."""
     for sets in ((0, 0, 0), (FULL, FULL, FULL), (1, 1 << 40 | 1, 1 << 32)):
         data = spelt(WORDS[3], 12, *sets)
@@ -106,7 +115,7 @@ def again():
         yield case(f"again-{sets[1]:x}", data)
 
 
-def cases():
+def cases() -> Iterator[Case]:
     yield from lengths()
     yield from versions()
     yield from targets()

@@ -2,10 +2,12 @@
 
 A call by a record makes the entries that `capset` makes, with the record's sets.
 """
+from collections.abc import Iterator
 from itertools import product
 
 from processes import ALL
 from reports import Script
+from suite import Case
 
 ROOT, TASK = 1, 7
 # "#define _LINUX_CAPABILITY_VERSION_1 0x19980330", and likewise _VERSION_2 0x20071026 and
@@ -25,7 +27,7 @@ SETS = (
 )
 
 
-def record(version, target, sets):
+def record(version: int, target: int, sets: tuple[int, ...]) -> str:
     """The bytes: `hdrp` has the version and the target, and each group of `datap` the words of the
     effective, the permitted and the inheritable set.
     """
@@ -36,12 +38,12 @@ def record(version, target, sets):
     return b"".join(it.to_bytes(4, "little") for it in words).hex()
 
 
-def said(version, sets):
+def said(version: int, sets: tuple[int, ...]) -> tuple[int, ...]:
     """The sets that such a record says: version 1 has no capability above 31."""
     return tuple(it & (LOW if version == 1 else ALL) for it in sets)
 
 
-def cases():
+def cases() -> Iterator[Case]:
     """A child of root makes each call, and is asked for its sets."""
     for version, target in product(VERSIONS, (0, TASK)):
         script = Script()
@@ -57,8 +59,8 @@ def cases():
                 "eperm" if refused else None,
                 by=f"capsetraw {record(version, target, sets)}",
             )
-            told = (ALL, 0, ALL) if refused else (permitted, inheritable, effective)
-            told = " ".join(f"{it:x}" for it in (*told, ALL, 0))
+            left = (ALL, 0, ALL) if refused else (permitted, inheritable, effective)
+            told = " ".join(f"{it:x}" for it in (*left, ALL, 0))
             script.asks(TASK, "caps", f"ok {told}")
             script.exit(TASK)
         yield script.case(f"version {version}, about {target}", len(SETS))

@@ -1,17 +1,21 @@
 """Every capset(2) of one capability: by a process that has it in each of sixteen ways, with
 CAP_SETPCAP effective or not, to each way to have it permitted, inheritable and effective.
 """
+from collections.abc import Iterator
 from itertools import product
 
-from processes import ALL, NET_RAW, RAW, Refused, ways
+from processes import ALL, NET_RAW, RAW, Refused, Way, ways
 from reports import Script
+from suite import Case
 
 # The bits of CAP_SETPCAP, which each process has permitted, and effective where that is asked.
 SETPCAP = 0x100
 ROOT, TASK, CHILD = 1, 2, 3
+# Whether it is to be permitted, inheritable and effective.
+New = tuple[bool, bool, bool]
 
 
-def page(old, new, able):
+def page(old: Way, new: New, able: bool) -> bool:
     """Whether it is ambient after, where capset is not refused: capabilities(7), "Programmatically
     adjusting capability sets".
     """
@@ -36,20 +40,20 @@ def page(old, new, able):
     return ambient and new_permitted and new_inheritable
 
 
-def call(sets, able):
+def call(sets: tuple[bool, ...], able: bool) -> str:
     """The call that has CAP_NET_RAW in these of the permitted, inheritable and effective sets."""
     permitted, inheritable, effective = (RAW * it for it in sets)
     return f"capset {permitted | SETPCAP:x} {inheritable:x} {effective | SETPCAP * able:x}"
 
 
-def told(sets, able):
+def told(sets: tuple[bool, ...], able: bool) -> str:
     """The five sets, as a report has them."""
     permitted, inheritable, effective, bounding, ambient = (RAW * it for it in sets)
     own = f"{permitted | SETPCAP:x} {inheritable:x} {effective | SETPCAP * able:x}"
     return f"ok {own} {ALL & ~RAW | bounding:x} {ambient:x}"
 
 
-def make(script, way, able):
+def make(script: Script, way: Way, able: bool) -> None:
     """Makes a child of root that has CAP_NET_RAW so."""
     permitted, inheritable, effective, bounding, ambient = way
     script.fork(ROOT, TASK, 2)
@@ -61,7 +65,7 @@ def make(script, way, able):
     script.changes(TASK, call((permitted, inheritable, effective), able))
 
 
-def tries(script, way, new, able):
+def tries(script: Script, way: Way, new: New, able: bool) -> None:
     """A child of that one makes the call, and is asked for its sets."""
     script.fork(TASK, CHILD, 3)
     try:
@@ -75,13 +79,13 @@ def tries(script, way, new, able):
     script.exit(CHILD)
 
 
-def cases():
+def cases() -> Iterator[Case]:
     """One script for all."""
     script = Script()
     script.init(ROOT, 1, 0, 0)
     for way, able in product(ways(), (False, True)):
         make(script, way, able)
-        for new in product((False, True), repeat=3):
+        for new in product((False, True), (False, True), (False, True)):
             tries(script, way, new, able)
         script.exit(TASK)
     yield script.case("of each", 16 * 2 * 8)

@@ -5,6 +5,8 @@ The source is docs/RULES.md: "Fewer than 4 bytes are a wrong length; then anothe
 wrong revision; then another length than the version's is a wrong length"; and of execve(2): "bytes
 that spell nothing are EINVAL".
 """
+from collections.abc import Iterator
+
 from suite import UNREAD, Case, script
 
 # cap_net_raw=ep in version 3, for the user namespace whose root is user 100000. The revision stands
@@ -29,7 +31,7 @@ GIVEN = "ok\n4 commit h100041 -> ok c1 s1 ended 0 gain 2000 0 0"
 REFUSED = "einval\n4 abort h100041 -> ok"
 
 
-def cases():
+def cases() -> Iterator[Case]:
     """Each number of bytes from 1 on, told and executed."""
     for length in range(1, LENGTH + 1):
         bytes_left = WHOLE[: 2 * length]

@@ -4,6 +4,8 @@ a set.
 The sources are capabilities(7), "File capability extended attribute versioning", and the structures
 of linux/capability.h. What each says is quoted beside the line that follows it.
 """
+from collections.abc import Iterator
+
 from suite import UNREAD, Case
 
 # "VFS_CAP_REVISION_1 This was the original file capability implementation, which supported 32-bit
@@ -24,14 +26,14 @@ ROOT = 100000
 LAST = 40
 
 
-def said(version, permitted, inheritable, effective):
+def said(version: int, permitted: int, inheritable: int, effective: int) -> str:
     """The line that an attribute is written as."""
     root = ROOT if version == 3 else 0
     sets = f"perm {permitted:x} inh {inheritable:x}"
     return f"version {version} {sets} effective {effective} root {root}\n"
 
 
-def spelt(revision, flags, permitted, inheritable):
+def spelt(revision: int, flags: int, permitted: int, inheritable: int) -> bytes:
     """The six words: `magic_etc`, twice `permitted` and `inheritable`, the low halves first, and
     `rootid`.
     """
@@ -40,11 +42,11 @@ def spelt(revision, flags, permitted, inheritable):
     return b"".join(it.to_bytes(4, "little") for it in [*words, ROOT])
 
 
-def case(name, data, line):
+def case(name: str, data: bytes, line: str) -> Case:
     return Case(name, ("decode", data.hex()), UNREAD, line.encode())
 
 
-def lengths():
+def lengths() -> Iterator[Case]:
     """Every length under every revision, with CAP_NET_RAW permitted and CAP_KILL inheritable."""
     permitted, inheritable = 1 << 13, 1 << 5
     for revision in range(5):
@@ -64,7 +66,7 @@ def lengths():
                 yield case(name, whole[:length], line)
 
 
-def capabilities():
+def capabilities() -> Iterator[Case]:
     """Each bit of a set by itself. Version 1 has those of the low half alone."""
     for version, length in BYTES.items():
         for bit in range(32 if version == 1 else 64):
@@ -82,6 +84,6 @@ def capabilities():
             )
 
 
-def cases():
+def cases() -> Iterator[Case]:
     yield from lengths()
     yield from capabilities()

@@ -9,31 +9,32 @@ that is left out further actions may follow, as the page has it.
 import ctypes
 import re
 import sys
+from collections.abc import Callable, Iterator
 from pathlib import Path
 
 HERE = Path(__file__).resolve().parent
 sys.path.insert(0, str(HERE.parent))
 from captext import FULL, NAMES, attribute, longest, sets  # noqa: E402
-from suite import UNREAD, Case, rows  # noqa: E402
+from suite import UNREAD, Case, module_of, rows  # noqa: E402
 
 SAID = HERE / "by-libcap.said"
 # CAP_EFFECTIVE, CAP_PERMITTED and CAP_INHERITABLE of sys/capability.h
 FLAGS = range(3)
 
 
-def asked():
+def asked() -> Callable[[str], tuple[int, ...] | None]:
     """What libcap says of a text: its three sets, or none."""
     libcap = ctypes.CDLL("libcap.so.2")
     libcap.cap_from_text.restype = ctypes.c_void_p
     libcap.cap_free.argtypes = (ctypes.c_void_p,)
     libcap.cap_get_flag.argtypes = (ctypes.c_void_p, ctypes.c_int, ctypes.c_int, ctypes.c_void_p)
 
-    def has(caps, number, flag):
+    def has(caps: int, number: int, flag: int) -> int:
         value = ctypes.c_int()
         libcap.cap_get_flag(caps, number, flag, ctypes.byref(value))
         return value.value
 
-    def of(text):
+    def of(text: str) -> tuple[int, ...] | None:
         caps = libcap.cap_from_text(text.encode())
         if not caps:
             return None
@@ -44,11 +45,11 @@ def asked():
     return of
 
 
-def escaped(text):
+def escaped(text: str) -> str:
     return "".join({"\\": "\\\\", "\n": "\\n", "\t": "\\t"}.get(it, it) for it in text)
 
 
-def narrower(text):
+def narrower(text: str) -> str | None:
     """Why a text of libcap's may be none of this program's."""
     if re.search(r"^\s|\s$|\s\s|[\t\n]|^$", text):
         return "white space"
@@ -57,14 +58,14 @@ def narrower(text):
     return "a list" if re.search(r"all,|,all|(^|[ ,])\d", text) else None
 
 
-def wider(text):
+def wider(text: str) -> str | None:
     """Why a text of this program's may be none of libcap's."""
     if re.search(r"[-=+eip]=", text):
         return "a later ="
     return "more behind no list" if re.search(r"(^| )=\w*[-+]", text) else None
 
 
-def cases():
+def cases() -> Iterator[Case]:
     for number, (given, said) in enumerate(rows(SAID), 1):
         text = given.decode()
         whole = longest(text)[1]
@@ -82,13 +83,9 @@ def cases():
         yield Case(str(number), ("encode", text), UNREAD, f"{line}\n".encode())
 
 
-def main():
+def main() -> None:
     """Asks this machine's libcap."""
-    import importlib.util
-
-    spec = importlib.util.spec_from_file_location("every_text", HERE / "every-text.py")
-    texts = importlib.util.module_from_spec(spec)
-    spec.loader.exec_module(texts)
+    texts = module_of("every_text", HERE / "every-text.py")
     of = asked()
     kept = [*texts.TELLING, *texts.names(), *list(texts.clauses())[::4]]
     lines = ["; what cap_from_text(3) of libcap says: the sets e, p and i, or that it refuses"]

@@ -5,8 +5,10 @@ The source is cap_text_formats(7), whose sentences stand in captext.py beside th
 them.
 """
 import itertools
+from collections.abc import Iterator
 
-from captext import CAPABILITIES, NAMES, case
+from captext import NAMES, case
+from suite import Case
 
 # Texts that are cut at each byte, and into which other bytes are put at each place.
 CUT = (
@@ -43,10 +45,14 @@ TELLING = (
     "cap_chown=p cap_chown=e", "cap_chown=e", "cap_chown=ei", "cap_chown=ep cap_kill=p",
     "cap_chown=ep cap_kill=ei", "cap_chown=ep cap_kill=i", "cap_chown=p cap_kill+e", "=e", "=e-e",
     "cap_chown=ep cap_chown-p", "cap_chown=ep cap_chown-e", "all=eip cap_kill-e",
-    "all=eip cap_kill=",
+    "all=eip cap_kill=", "all=eip cap_chown-eip", "=p cap_kill=i", "cap_bpf=+p+i",
+    # As getcap(8) writes them.
+    "cap_chown,cap_kill=p", "cap_net_bind_service=ei", "cap_chown=p cap_fowner=ip cap_fsetid=i",
+    "cap_setuid=ep cap_setgid=eip cap_checkpoint_restore=ei",
 )  # fmt: skip
 
-def cuts():
+
+def cuts() -> Iterator[str]:
     """Each prefix of a text, and other bytes put into it at each place."""
     for text in CUT:
         for place in range(len(text) + 1):
@@ -56,7 +62,7 @@ def cuts():
                 yield text[:place] + byte + text[place:]
 
 
-def names():
+def names() -> Iterator[str]:
     """Each name by itself, each with the next, and what is nearly one."""
     for number, name in enumerate(NAMES):
         yield f"{name}=ep"
@@ -66,10 +72,10 @@ def names():
         yield f"{name}_=p"
         yield f"{name[:-1]}=p"
         yield f"{name.upper()}=p"
-        yield f"{CAPABILITIES[number].lower()}=p"
+        yield f"{name.removeprefix('cap_')}=p"
 
 
-def clauses():
+def clauses() -> Iterator[str]:
     """Two clauses on lists that have a capability in common, of every two actions each."""
     lists = ("cap_chown", "cap_chown,cap_bpf", "all", "")
     actions = ("=", "=p", "+e", "+ip", "-p", "-ei", "=eip-i", "-i=p")
@@ -78,10 +84,9 @@ def clauses():
             yield f"{first}{one} {second}{other}"
 
 
-def cases():
+def cases() -> Iterator[Case]:
     texts = dict.fromkeys([*TELLING, *cuts(), *names(), *clauses()])
     for text in texts:
         # A word that is empty or begins with `-` is no text of a command line.
         if text and not text.startswith("-"):
             yield case(text.encode("unicode_escape").decode(), text)
-

@@ -4,6 +4,7 @@ capability in a clause of its own, are an attribute or none.
 """
 import itertools
 import random
+from collections.abc import Iterator
 
 from captext import FULL, NAMES, attribute, case, printed, sets
 from suite import UNREAD, Case
@@ -13,16 +14,16 @@ THREE = (1 << 0, 1 << 31, 1 << 40)
 MORE = 500
 
 
-def few():
+def few() -> Iterator[tuple[int, int]]:
     """Each two sets over three capabilities."""
     yield from itertools.product(subsets(), repeat=2)
 
 
-def subsets():
+def subsets() -> list[int]:
     return [sum(it) for size in range(4) for it in itertools.combinations(THREE, size)]
 
 
-def triples():
+def triples() -> Iterator[Case]:
     """Each three sets over three capabilities: effective, permitted and inheritable."""
     for its in itertools.product(subsets(), repeat=3):
         letters = {cap: "".join(it for it, s in zip("epi", its) if s & cap) for cap in THREE}
@@ -32,16 +33,17 @@ def triples():
         yield case(text, text)
 
 
-def many():
+def many() -> Iterator[tuple[int, int]]:
     """Two sets over all capabilities, of any size."""
     drawn = random.Random(1)
     for _ in range(MORE):
-        yield tuple(
+        one, other = (
             drawn.getrandbits(41) & drawn.choice((FULL, drawn.getrandbits(41))) for _ in range(2)
         )
+        yield one, other
 
 
-def cases():
+def cases() -> Iterator[Case]:
     for permitted, inheritable in [*few(), *many()]:
         for effective in (False, True):
             # No capability is effective: no text has a flag for that.

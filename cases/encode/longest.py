@@ -2,6 +2,8 @@
 
 docs/FORMATS.md, "The command line": "TEXT has 1 to 4,096 bytes".
 """
+from collections.abc import Iterator
+
 from captext import case
 from suite import UNREAD, Case
 
@@ -9,7 +11,7 @@ MOST = 4096
 USAGE = b"usage: credtrace run|lanes|audit|gen N|decode HEX|encode TEXT|capdata HEX\n"
 
 
-def texts(length):
+def texts(length: int) -> Iterator[tuple[str, str]]:
     """Texts of so many bytes: one action of many letters, many clauses, and what only begins one or
     goes wrong at its end.
     """
@@ -20,7 +22,7 @@ def texts(length):
     yield "a wrong end", start + "p" * (length - len(start) - 1) + "x"
 
 
-def cases():
+def cases() -> Iterator[Case]:
     for length in (MOST - 1, MOST, MOST + 1, 2 * MOST, 32 * MOST - 1):
         for name, text in texts(length):
             assert len(text) == length, name

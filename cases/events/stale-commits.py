@@ -1,6 +1,8 @@
 """A change whose commit comes too late: eight times over another lane changes the task's
 credential.
 """
+from collections.abc import Iterator
+
 import suite
 from reports import Script, Slots
 
@@ -11,7 +13,7 @@ TASK, OTHER = 1, 2
 CALL = "setuid 0"
 
 
-def script():
+def script() -> Script:
     """The script, and its report as `run` makes it: the change is in time."""
     made = Script()
     made.init(TASK, 1, 0, 0)
@@ -24,13 +26,13 @@ def script():
     return made
 
 
-def late_entries():
+def late_entries() -> Iterator[str]:
     """The entries where each call of the other lane comes between a try's change and its commit."""
     slots = Slots()
     held, prepared = (f"h{100_000 + 10 * CHANGE + it}" for it in (0, 1))
     base = slots.seal(slots.keep())
 
-    def sealed():
+    def sealed() -> tuple[int, str]:
         number = slots.seal(slots.keep())
         return number, f"ok c{number} s{slots.place[number]}"
 
@@ -51,12 +53,12 @@ def late_entries():
         yield f"{CHANGE} drop {held} -> ok"
 
 
-def ended(lines):
+def ended(lines: list[str]) -> str:
     """The lines as a text."""
     return "".join(f"{it}\n" for it in lines)
 
 
-def cases():
+def cases() -> Iterator[suite.Case]:
     """The report of `run`, that where every try is late, and the latter with one try more."""
     made, late = script(), [*late_entries()]
     text, in_time, too_late = (ended(it) for it in (made.lines, made.entries, late))

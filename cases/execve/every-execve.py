@@ -10,11 +10,13 @@ The table stands once for each of four places: two in the initial user namespace
 attributes count and where they don't, one in a container's, and one in a namespace below that. Who
 is root elsewhere is nobody special there, as a user and as a file's owner.
 """
+from collections.abc import Iterable, Iterator
 from dataclasses import dataclass
 from itertools import product
 
-from processes import ALL, KEEP_CAPS, NO_SETUID_FIXUP, Refused, ways
+from processes import ALL, KEEP_CAPS, NO_SETUID_FIXUP, Refused, Way, ways
 from reports import LINES, Script
+from suite import Case
 
 NOROOT = 1
 CAPABILITIES = range(41)
@@ -39,12 +41,12 @@ class Place:
     name: str
     namespace: int
     root: int
-    ancestors: tuple
+    ancestors: tuple[int, ...]
     attribute_root: int
-    elsewhere: tuple
-    owners: tuple
+    elsewhere: tuple[int, ...]
+    owners: tuple[int, ...]
 
-    def users(self):
+    def users(self) -> Iterator[tuple[int, int]]:
         """The real and the effective user ids of the processes."""
         other = (*self.elsewhere, REAL_USER)[0]
         yield from product((self.root, other), (self.root, EFFECTIVE_USER))
@@ -70,7 +72,7 @@ class Sets:
     bounding: int
     ambient: int
 
-    def told(self):
+    def told(self) -> str:
         """The five sets, as a report has them."""
         sets = self.permitted, self.inheritable, self.effective, self.bounding, self.ambient
         return "ok " + " ".join(f"{it:x}" for it in sets)
@@ -98,7 +100,7 @@ class Attribute:
     inheritable: int = 0
     effective: bool = False
 
-    def spelt(self, root):
+    def spelt(self, root: int) -> str:
         """Its bytes, in version 3 (linux/capability.h); a damaged one has no version's revision."""
         words = [self.effective | (4 if self.name == "damaged" else 3) << 24]
         for half in (0, 32):
@@ -133,18 +135,22 @@ class Program:
     nosuid: bool
     attribute: Attribute
 
-    def name(self):
+    def name(self) -> str:
         """Its name tells all but its group."""
         suid, nosuid = "-suid" * self.set_user_id, "-nosuid" * self.nosuid
         return f"u{self.owner}{suid}{self.set_group_id}{nosuid}-{self.attribute.name}"
 
-    def declared(self, root):
+    def declared(self, root: int) -> str:
         """The line that declares it, its attribute with this root id."""
         mode = 0o4000 * self.set_user_id + MODES[self.set_group_id]
         has_none = self.attribute == NO_ATTRIBUTE
         attribute = "" if has_none else f" caps {self.attribute.spelt(root)}"
         nosuid = " nosuid" * self.nosuid
         return f"file {self.name()} reg {self.owner} {GROUP} {mode:04o}{nosuid}{attribute}"
+
+
+# What is gained by the file's permitted set, by its inheritable set, and as root's.
+Gains = tuple[int, int, int]
 
 
 @dataclass(frozen=True)
@@ -156,10 +162,10 @@ class After:
     user: int
     group: int
     sets: Sets
-    gained: tuple
+    gained: Gains
 
 
-def is_ignored(process, program):
+def is_ignored(process: Process, program: Program) -> bool:
     """execve(2): "The aforementioned transformations of the effective IDs are not performed (i.e.,
     the set-user-ID and set-group-ID bits are ignored) if any of the following is true: the
     no_new_privs attribute is set for the calling thread (see prctl(2)); the underlying filesystem
@@ -169,14 +175,14 @@ def is_ignored(process, program):
     return process.no_new_privs or program.nosuid
 
 
-def changes_user(process, program):
+def changes_user(process: Process, program: Program) -> bool:
     """ "If the set-user-ID bit is set on the program file referred to by pathname, then the
     effective user ID of the calling process is changed to that of the owner of the program file."
     """
     return program.set_user_id and not is_ignored(process, program)
 
 
-def changes_group(process, program):
+def changes_group(process: Process, program: Program) -> bool:
     """ "Similarly, if the set-group-ID bit is set on the program file [..]". inode(7): "For a file
     that does not have the group execution bit (S_IXGRP) set, the set-group-ID bit indicates
     mandatory file/record locking."
@@ -184,7 +190,7 @@ def changes_group(process, program):
     return program.set_group_id == "-sgid" and not is_ignored(process, program)
 
 
-def met(process, program):
+def met(process: Process, program: Program) -> Attribute:
     """The attribute as the process meets it. capabilities(7), "Namespaced file capabilities":
     "capabilities are conferred only if the binary is executed by a process that resides in a user
     namespace whose UID 0 maps to the root user ID that is saved in the extended attribute, or when
@@ -200,7 +206,7 @@ def met(process, program):
     return attribute if counts else NO_ATTRIBUTE
 
 
-def check_dumb(sets, attribute):
+def check_dumb(sets: Sets, attribute: Attribute) -> None:
     """capabilities(7), "Safety checking for capability-dumb binaries": "The kernel recognizes a
     file which has the effective capability bit set as capability-dumb [..]. If the process did not
     obtain the full set of file permitted capabilities, then execve(2) fails with the error EPERM."
@@ -210,7 +216,7 @@ def check_dumb(sets, attribute):
         raise Refused("eperm")
 
 
-def is_all_ones(process, user, attribute):
+def is_all_ones(process: Process, user: int, attribute: Attribute) -> bool:
     """ "Capabilities and execution of programs by root": "If the real or effective user ID of the
     process is 0 (root), then the file inheritable and permitted sets are ignored; instead they are
     notionally considered to be all ones". "SECBIT_NOROOT: If this bit is set, then the kernel does
@@ -228,7 +234,9 @@ def is_all_ones(process, user, attribute):
     return not (attribute != NO_ATTRIBUTE and process.real_user != root and user == root)
 
 
-def transformed(process, program, user, attribute):
+def transformed(
+    process: Process, program: Program, user: int, attribute: Attribute
+) -> tuple[Sets, Gains]:
     """The sets after, by "Transformation of capabilities during execve()", and the gains."""
     sets, all_ones = process.sets, is_all_ones(process, user, attribute)
     # "If the effective user ID of the process is 0 (root) or the file effective bit is in fact
@@ -254,7 +262,7 @@ def transformed(process, program, user, attribute):
     return after, (0, 0, gain) if all_ones else (of_file, gain & ~of_file, 0)
 
 
-def page(process, program):
+def page(process: Process, program: Program) -> After:
     """The process after the execve of the program."""
     attribute = met(process, program)
     check_dumb(process.sets, attribute)
@@ -263,7 +271,7 @@ def page(process, program):
     return After(user, group, *transformed(process, program, user, attribute))
 
 
-def sets_of(its):
+def sets_of(its: Iterable[Way]) -> Sets:
     """The sets of a process that has the capabilities in these ways, one after another."""
     its = [*its]
     sets = [0] * 5
@@ -273,19 +281,19 @@ def sets_of(its):
     return Sets(*sets)
 
 
-def short_of(way, sets):
+def short_of(way: Way, sets: Sets) -> Sets:
     """The sets, with CAP_NET_RAW in this way instead."""
     fields = vars(sets).values()
     return Sets(*(it & ~(1 << 13) | has << 13 for it, has in zip(fields, way)))
 
 
-def programs(place):
+def programs(place: Place) -> list[Program]:
     """Each program of the table."""
     kinds = product(place.owners, (False, True), MODES, (False, True), ATTRIBUTES)
     return [Program(*it) for it in kinds]
 
 
-def rows(place):
+def rows(place: Place) -> Iterator[tuple[Sets, list[Program]]]:
     """The sets of a process, and the programs that it executes."""
     dumb = [it for it in programs(place) if it.attribute == DUMB]
     bounded = sets_of(it for it in ways() if it[3])
@@ -295,10 +303,11 @@ def rows(place):
         yield short_of(way, bounded), dumb
 
 
-def processes(place, sets):
+def processes(place: Place, sets: Sets) -> Iterator[Process]:
     """Each process of the table with these sets."""
-    for users, *flags in product(place.users(), *[(False, True)] * 3):
-        yield Process(*users, *flags, place, sets)
+    either = False, True
+    for (real, effective), noroot, keeps, no_new in product(place.users(), either, either, either):
+        yield Process(real, effective, noroot, keeps, no_new, place, sets)
 
 
 # Root's task, one with the groups and the sets that shrink alone, a process of the table, and the
@@ -306,7 +315,7 @@ def processes(place, sets):
 ROOT, BODY, TASK, CHILD = 1, 2, 3, 4
 
 
-def begun(place):
+def begun(place: Place) -> Script:
     """A script with the programs, the namespaces and a task of the place's root."""
     script = Script()
     script.declares(*NAMESPACES, *(it.declared(place.attribute_root) for it in programs(place)))
@@ -315,7 +324,7 @@ def begun(place):
     return script
 
 
-def make_body(script, sets):
+def make_body(script: Script, sets: Sets) -> None:
     """Makes a child of root that has these inheritable, bounding and ambient sets."""
     script.fork(ROOT, BODY, 2)
     script.ids(BODY, f"setgroups {SUPPLEMENTARY}")
@@ -329,7 +338,7 @@ def make_body(script, sets):
             script.changes(BODY, f"ambraise {capability}")
 
 
-def make(script, process):
+def make(script: Script, process: Process) -> None:
     """Makes a child of that one this process."""
     sets = process.sets
     script.fork(BODY, TASK, 3)
@@ -341,7 +350,7 @@ def make(script, process):
     script.changes(TASK, f"capset {sets.permitted:x} {sets.inheritable:x} {sets.effective:x}")
 
 
-def executes(script, process, program):
+def executes(script: Script, process: Process, program: Program) -> None:
     """The process executes the program, in a child where that isn't refused."""
     call = f"exec {program.name()}"
     try:
@@ -365,7 +374,7 @@ def executes(script, process, program):
     script.exit(CHILD)
 
 
-def table(place):
+def table(place: Place) -> Iterator[Case]:
     """All rows in this place."""
     script, calls, part = begun(place), 0, 1
     for sets, some in rows(place):
@@ -385,7 +394,7 @@ def table(place):
     yield script.case(f"{place.name}, part {part}", calls)
 
 
-def cases():
+def cases() -> Iterator[Case]:
     """The table in each place."""
     for it in PLACES:
         yield from table(it)

@@ -7,6 +7,7 @@ file that no line declares. Where it is good all lines before it have the entrie
 the whole script.
 """
 import re
+from collections.abc import Iterator
 from pathlib import Path
 
 from suite import Case
@@ -31,14 +32,14 @@ OF_TASK = {
 TASK = re.compile("t[1-9][0-9]*")
 
 
-def form_of(words):
+def form_of(words: list[str]) -> tuple[int, str] | None:
     """The form that the first words name, if any. "A task alone fails here"."""
     if TASK.fullmatch(words[0]):
         return OF_TASK.get(words[1]) if len(words) > 1 else None
     return DECLARING.get(words[0])
 
 
-def reason_of(line):
+def reason_of(line: str) -> str | None:
     """Why the line is bad, by the tests in their order; nothing of a good one."""
     words = line.partition("#")[0].split()
     form = form_of(words) if words else (0, "")
@@ -52,7 +53,7 @@ def reason_of(line):
     return "name" if words[1:2] == ["exec"] and words[2] != FILE else None
 
 
-def cases():
+def cases() -> Iterator[Case]:
     """Each beginning of the script."""
     script = EXAMPLE.read_bytes()
     report = EXAMPLE.with_suffix(".report").read_bytes().splitlines()

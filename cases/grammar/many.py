@@ -5,6 +5,8 @@ docs/FORMATS.md: HEX is "2 to 128 hexadecimal digits of either case, an even num
 has 6 to 9. [It] fails here, and so does a `file` line after 256 others." Declarations make no
 event.
 """
+from collections.abc import Iterator
+
 import suite
 
 BAD = "bad 1 word\n"
@@ -24,14 +26,14 @@ DIGITS = (
 )
 
 
-def attributes():
+def attributes() -> Iterator[suite.Case]:
     """A file each with an attribute of so many digits."""
     for prefix, count, written in DIGITS:
         text = f"file a reg 0 0 0644 caps {prefix}{'f' * count}"
         yield suite.script(f"{count} digits after '{prefix}'", text, written)
 
 
-def files():
+def files() -> Iterator[suite.Case]:
     """256 files may be declared. One more is too many, whatever it spells."""
     declared = "".join(f"file f{number} reg 0 0 0644\n" for number in range(1, 257))
     answer = "257 take h102570 t1 -> no task t1\n"
@@ -42,7 +44,7 @@ def files():
         yield suite.script(f"then `{line}`", text, "bad 258 count\n")
 
 
-def cases():
+def cases() -> Iterator[suite.Case]:
     """All of them."""
     yield from attributes()
     yield from files()

@@ -1,9 +1,11 @@
 """Every signal between processes with the user ids 0, 1 and 2, and between threads of one process.
 """
+from collections.abc import Iterator
 from itertools import combinations_with_replacement, product
 
 from processes import ALL, IDS, NO_SETUID_FIXUP, Process, processes
 from reports import LINES, Script
+from suite import Case
 
 CAP_KILL = 5
 ROOT, SENDER = 1, 2
@@ -11,7 +13,7 @@ ROOT, SENDER = 1, 2
 THREADS, ONES, OTHERS = 3, 10, 50
 
 
-def allowed(sender, target):
+def allowed(sender: Process, target: Process) -> bool:
     """kill(2): "For a process to have permission to send a signal, it must either be privileged
     (under Linux: have the CAP_KILL capability in the user namespace of the target process), or the
     real or effective user ID of the sending process must equal the real or saved set-user-ID of
@@ -21,7 +23,7 @@ def allowed(sender, target):
     return sender.privileged or bool(of_sender & of_target)
 
 
-def begun():
+def begun() -> Script:
     """A script with root's task, whose children have the same sets with any ids."""
     script = Script()
     script.init(ROOT, 1, 0, 0)
@@ -29,12 +31,12 @@ def begun():
     return script
 
 
-def effective_of(process):
+def effective_of(process: Process) -> int:
     """All capabilities, or all but CAP_KILL."""
     return ALL if process.privileged else ALL & ~(1 << CAP_KILL)
 
 
-def make(script, process, task):
+def make(script: Script, process: Process, task: int) -> None:
     """Makes a child of root's, of a process with the number of the task, this process."""
     script.fork(ROOT, task, task)
     script.ids(task, f"setresuid {process.real} {process.effective} {process.saved}")
@@ -42,7 +44,7 @@ def make(script, process, task):
     script.changes(task, f"capset {ALL:x} 0 {effective_of(process):x}")
 
 
-def groups():
+def groups() -> list[list[Process]]:
     """The processes in six groups, by the filesystem id and by CAP_KILL."""
     its = [*processes()]
     return [
@@ -50,7 +52,7 @@ def groups():
     ]
 
 
-def among(script, ones, others):
+def among(script: Script, ones: list[Process], others: list[Process]) -> None:
     """Each of the ones signals each of the others, and the other way round where they differ."""
     tasks = [*enumerate(ones, ONES)], [*enumerate(others, OTHERS)]
     for task, process in [*tasks[0], *tasks[1]]:
@@ -62,7 +64,7 @@ def among(script, ones, others):
         script.exit(task)
 
 
-def between_processes():
+def between_processes() -> Iterator[Case]:
     """Each process signals each, of another task's process."""
     script, calls, part = begun(), 0, 1
     for ones, others in combinations_with_replacement(groups(), 2):
@@ -74,7 +76,7 @@ def between_processes():
     yield script.case(f"between processes, part {part}", calls)
 
 
-def threaded():
+def threaded() -> Script:
     """A script with each process held under a label, and the threads of one process."""
     script = begun()
     for label, process in enumerate(processes(), 1):
@@ -89,7 +91,7 @@ def threaded():
     return script
 
 
-def to_threads(script, ids):
+def to_threads(script: Script, ids: tuple[int, ...]) -> None:
     """The process has these ids. Its sender acts as each process in turn, and signals its other
     threads, each with another filesystem id or other sets: within one process all is allowed
     (kernel/signal.c).
@@ -105,7 +107,7 @@ def to_threads(script, ids):
         script.reverts(SENDER)
 
 
-def between_threads():
+def between_threads() -> Iterator[Case]:
     """Each process signals each, in one process: it is lent the sender's credential."""
     rounds = [*product(IDS, repeat=3)]
     for some in (rounds[:14], rounds[14:]):
@@ -115,7 +117,7 @@ def between_threads():
         yield script.case(f"between threads from {some[0]}", len(some) * 6 * 162)
 
 
-def cases():
+def cases() -> Iterator[Case]:
     """Both tables."""
     yield from between_processes()
     yield from between_threads()

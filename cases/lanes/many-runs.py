@@ -1,10 +1,12 @@
 """Scripts whose lanes run as threads many times over: each report must be legal.
 
-docs/LANES.md: "its report is the text of one legal journal of the script". No run takes one of the
-orders for granted. Nor can a case tell whether lanes overlapped: where no thread can be made, they
-run one after another.
+docs/LANES.md: "its report is the text of one journal of the script, and of no other, and that one
+is legal". No run takes one of the orders for granted. Nor can a case tell whether lanes overlapped:
+where no thread can be made, they run one after another.
 """
-from suite import script
+from collections.abc import Callable, Iterator
+
+from suite import Case, script
 
 RUNS = 200
 # How often each of four scripts runs that share the runs.
@@ -100,7 +102,7 @@ sweep
 """
 
 
-def sixteen(process_of, held=0):
+def sixteen(process_of: Callable[[int], int], held: int = 0) -> str:
     """Sixteen lanes of a task each. The setup leaves so many slots in use for good: the first task
     gets as many credentials, each of which a label holds."""
     tasks = "".join(f"init t{lane} p{process_of(lane)} 0 0 n0\n" for lane in LANES)
@@ -109,7 +111,7 @@ def sixteen(process_of, held=0):
     return tasks + holds + lanes
 
 
-def cases():
+def cases() -> Iterator[Case]:
     """The short scripts, sixteen threads, sixteen processes, and those where few slots are left."""
     for name, text in SHORT.items():
         yield script(name, text, runs=RUNS)

@@ -1,8 +1,9 @@
 """As many tasks, open files, holds, prepared labels and overrides as there may be, and one more.
 
 docs/RULES.md: "At most 64 tasks live, 512 holds stand and 64 labels are prepared"; "at most 256
-files are open"; "An override may stand on another, at most eight in all".
+files are open"; "An override may be made over another, at most eight in all".
 """
+from collections.abc import Iterator
 from dataclasses import dataclass, field
 
 import suite
@@ -12,25 +13,25 @@ import suite
 class Run:
     """A script, and beside it the report that it must get."""
 
-    lines: list = field(default_factory=list)
-    entries: list = field(default_factory=list)
+    lines: list[str] = field(default_factory=list)
+    entries: list[str] = field(default_factory=list)
 
-    def line(self, text, *events):
+    def line(self, text: str, *events: str) -> None:
         """Adds a line, and its entries without their number."""
         self.lines.append(text)
         self.entries += [f"{len(self.lines)} {event}" for event in events]
 
-    def label(self):
+    def label(self) -> str:
         """The label A of the next line."""
         return f"h{100_000 + 10 * (len(self.lines) + 1)}"
 
-    def case(self, name):
+    def case(self, name: str) -> suite.Case:
         """The case of all lines."""
         script, report = ("".join(f"{it}\n" for it in its) for its in (self.lines, self.entries))
         return suite.script(name, script, report, calls=len(self.lines))
 
 
-def tasks():
+def tasks() -> suite.Case:
     """64 tasks live, each in a process of its own, and one more is forked."""
     run = Run()
     for number in range(64):
@@ -40,7 +41,7 @@ def tasks():
     return run.case("64 tasks")
 
 
-def threads():
+def threads() -> suite.Case:
     """64 tasks live, all in one process, and one more is created."""
     run = Run()
     for number in range(64):
@@ -50,7 +51,7 @@ def threads():
     return run.case("64 threads")
 
 
-def started(*declared):
+def started(*declared: str) -> Run:
     """A run with these declarations and a task of root's, which has credential 0 in slot 0."""
     run = Run()
     for line in declared:
@@ -59,7 +60,7 @@ def started(*declared):
     return run
 
 
-def opens(run, number, answer):
+def opens(run: Run, number: int, answer: str) -> None:
     """Task 1 opens a file under the descriptor of this number."""
     label = run.label()
     run.line(
@@ -70,7 +71,7 @@ def opens(run, number, answer):
     )
 
 
-def files():
+def files() -> suite.Case:
     """256 files are open, and one more is opened."""
     run = started("file a reg 0 0 0600")
     for number in range(1, 257):
@@ -79,18 +80,17 @@ def files():
     return run.case("256 files")
 
 
-def holds():
+def holds() -> suite.Case:
     """512 labels hold, and neither one more nor a question finds room."""
     run = started()
     for label in range(1, 513):
         run.line(f"take h{label} t1", f"take h{label} t1 -> ok c0 s0")
     run.line("take h513 t1", "take h513 t1 -> too many holds")
-    label = run.label()
-    run.line("t1 ids", f"take {label} t1 -> too many holds")
+    run.line("t1 ids", f"take {run.label()} t1 -> too many holds")
     return run.case("512 holds")
 
 
-def prepared():
+def prepared() -> suite.Case:
     """64 labels are prepared, each with a slot of its own, and one more is."""
     run = started()
     run.line("take h1000 t1", "take h1000 t1 -> ok c0 s0")
@@ -102,13 +102,13 @@ def prepared():
     return run.case("64 prepared labels")
 
 
-def leaves(run, number, slot):
+def leaves(run: Run, number: int, slot: int) -> None:
     """Task 1 gets its next credential, of this number, in this slot."""
     call = "begin t1 setresuid 0 0 0"
     run.line(call, f"{call} -> ok c{number} s{slot} left 0")
 
 
-def let_go(run, name):
+def let_go(run: Run, name: str) -> suite.Case:
     """All that referred to credential 0 but the task and hold 1000 is given up and swept. Then its
     slot is free once both have dropped it, and not before."""
     run.line("sweep", "sweep -> ok")
@@ -121,14 +121,14 @@ def let_go(run, name):
     return run.case(name)
 
 
-def held(*declared):
+def held(*declared: str) -> Run:
     """A run whose task's credential is held by label 1000 too."""
     run = started(*declared)
     run.line("take h1000 t1", "take h1000 t1 -> ok c0 s0")
     return run
 
 
-def overrides_and_back():
+def overrides_and_back() -> suite.Case:
     """Eight overrides and one too many, and all are reverted."""
     run = held()
     for _ in range(8):
@@ -139,7 +139,7 @@ def overrides_and_back():
     return let_go(run, "eight overrides and back")
 
 
-def holds_and_back():
+def holds_and_back() -> suite.Case:
     """511 holds beside that one and one too many, and all are dropped."""
     run = held()
     for label in range(1, 512):
@@ -150,7 +150,7 @@ def holds_and_back():
     return let_go(run, "512 holds and back")
 
 
-def files_and_back():
+def files_and_back() -> suite.Case:
     """256 files and one too many, and all are closed."""
     run = held("file a reg 0 0 0600")
     for number in range(1, 257):
@@ -161,7 +161,7 @@ def files_and_back():
     return let_go(run, "256 files and back")
 
 
-def cases():
+def cases() -> Iterator[suite.Case]:
     """All of them."""
     yield from (tasks(), threads(), files(), holds(), prepared())
     yield from (overrides_and_back(), holds_and_back(), files_and_back())

@@ -4,6 +4,8 @@ docs/FORMATS.md, status 6: "the script has more than 1,048,576 bytes or more tha
 an input of `audit` more than 402,653,184 bytes; nothing was written. Where no line of an input of
 `audit` is `report`, its script is all of it".
 """
+from collections.abc import Iterator
+
 import suite
 
 TOO_LARGE = 6
@@ -13,12 +15,12 @@ GROUP = " 4294967294"
 GROUPS = 1024
 
 
-def too_large(name, text):
+def too_large(name: str, text: str) -> suite.Case:
     """A script that is too large: nothing is written."""
     return suite.script(name, text, "", status=TOO_LARGE)
 
 
-def scripts():
+def scripts() -> Iterator[suite.Case]:
     """Comments and blank lines up to the limits, and beyond. The size is tested before the
     script."""
     yield suite.script("20,000 lines", "#\n" * 20_000, "")
@@ -33,7 +35,7 @@ def scripts():
     yield too_large("1,048,577 blank lines", "\n" * 1_048_577)
 
 
-def question(line):
+def question(line: int) -> str:
     """What a root task's question for its ids on this line makes."""
     label = 100_000 + 10 * line
     return (
@@ -43,7 +45,7 @@ def question(line):
     )
 
 
-def long_reports():
+def long_reports() -> Iterator[suite.Case]:
     """As many questions as there may be lines, and entries of more than 4,096 bytes, more than
     65,536, and nearly as many as a script may have."""
     questions = "".join(question(line) for line in range(2, 20_001))
@@ -57,12 +59,12 @@ def long_reports():
         yield suite.script(f"{count} groups", f"{INIT}{call}{GROUP * count}", INIT_ENTRY + entry)
 
 
-def audited(name, given, written, status=None):
+def audited(name: str, given: str, written: str, status: int | None = None) -> suite.Case:
     """An input of `audit`."""
     return suite.Case(name, ("audit",), given.encode(), written.encode(), status=status)
 
 
-def audits():
+def audits() -> Iterator[suite.Case]:
     """Scripts of audits at their limits. A report may be larger than a script."""
     yield audited("20,000 lines, audited", "#\n" * 20_000 + "report\n", "legal\n")
     yield audited("20,001 lines, audited", "#\n" * 20_001 + "report\n", "", TOO_LARGE)
@@ -74,7 +76,7 @@ def audits():
     yield audited("a report of 2 MiB", "report\n" + "x\n" * 1_048_576, "not legal 1\n")
 
 
-def cases():
+def cases() -> Iterator[suite.Case]:
     """All of them."""
     yield from scripts()
     yield from long_reports()

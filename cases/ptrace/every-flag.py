@@ -2,8 +2,10 @@
 
 prctl(2), PR_SET_DUMPABLE: "Normally, the "dumpable" attribute is set to 1. However, it is reset to
 the current value contained in the file /proc/sys/fs/suid_dumpable (which by default has the value
-0), in the following circumstances". What sets it to 1 again is in docs/RULES.md, "Dumpable processes".
+0), in the following circumstances". What sets it to 1 again is in docs/RULES.md, "Dumpable
+processes".
 """
+from collections.abc import Iterator
 from itertools import product
 
 import suite
@@ -14,7 +16,7 @@ SETPCAP, SETFCAP = 8, 31
 PLAIN = "file plain reg 0 0 0755"
 
 
-def attribute(permitted=0, inheritable=0, effective=False):
+def attribute(permitted: int = 0, inheritable: int = 0, effective: bool = False) -> str:
     """The bytes of an attribute of version 2 (linux/capability.h)."""
     words = [2 << 24 | effective]
     for half in (0, 32):
@@ -41,7 +43,7 @@ ALL = f"{(1 << 41) - 1:x}"
 STAYS, CLEARS, SETS = "stays", "clears", "sets"
 
 
-def after(before, effect):
+def after(before: int, effect: str) -> int:
     """The flag after an event."""
     return {STAYS: before, CLEARS: 0, SETS: 1}[effect]
 
@@ -133,24 +135,27 @@ THREADS = (
      ["t2 raw setresuid 0 0 0"], STAYS),
     ("a real user of a thread by a call of its own", [ROOT, "t1 spawn t2"],
      ["t2 raw setresuid 5 -1 -1"], STAYS),
-    ("a thread's groups by a call of its own", [ROOT, "t1 spawn t2"], ["t2 raw setgroups 5"], STAYS),
+    ("a thread's groups by a call of its own", [ROOT, "t1 spawn t2"], ["t2 raw setgroups 5"],
+     STAYS),
     ("a call of a thread's own that may not be", [USER, "t1 spawn t2"], ["t2 raw setuid 5"], STAYS),
     ("another process's call of its own", [ROOT, "t1 fork t2 p2"], ["t2 raw setuid 5"], STAYS),
-    ("a call of one thread, and then every thread's", [ROOT, "t1 spawn t2", "t2 raw setresuid 5 0 0"],
-     ["t1 setresuid 0 0 0"], STAYS),
+    ("a call of one thread, and then every thread's",
+     [ROOT, "t1 spawn t2", "t2 raw setresuid 5 0 0"], ["t1 setresuid 0 0 0"], STAYS),
     ("another thread's execve", [PLAIN, ROOT, "t1 spawn t2", "t1 spawn t3"],
      ["t1 exec plain"], SETS),
 )
 
 
-def setup_first(lines):
+def setup_first(lines: list[str]) -> tuple[list[str], list[str], list[str]]:
     """The lines that declare, and then the others."""
     declares = [it for it in lines if it.startswith("file ")]
     inits = [it for it in lines if it.startswith("init ")]
     return declares, inits, [it for it in lines if it not in declares and it not in inits]
 
 
-def of_event(name, before, event, effect, flag):
+def of_event(
+    name: str, before: list[str], event: list[str], effect: str, flag: int
+) -> suite.Case | None:
     """The flag is this, the event is made, and the process is asked for its flag."""
     declares, inits, others = setup_first([*before, *(it for it in event if it[:5] == "init ")])
     declares = [*dict.fromkeys([*FILES, *declares])]
@@ -166,7 +171,7 @@ def of_event(name, before, event, effect, flag):
     return entries(f"{name}, from {flag}", lines, told)
 
 
-def entries(name, lines, *expected):
+def entries(name: str, lines: list[str], *expected: str) -> suite.Case:
     """A script of which some entries are told."""
     return suite.Case(
         name, ("run",), "\n".join([*lines, ""]).encode(),
@@ -174,7 +179,7 @@ def entries(name, lines, *expected):
     )
 
 
-def of_children(flag):
+def of_children(flag: int) -> suite.Case:
     """A child has the flag of its parent's process, and from then on its own."""
     lines = [ROOT, f"t1 dumpable {flag}", "t1 fork t2 p2", "t2 dumped", f"t2 dumpable {1 - flag}",
              "t1 dumped", "t2 dumped"]
@@ -182,7 +187,7 @@ def of_children(flag):
                    f"6 dumped t1 -> ok {flag}", f"7 dumped t2 -> ok {1 - flag}")
 
 
-def of_ends(flag):
+def of_ends(flag: int) -> suite.Case:
     """A process that ended is gone, and another of its number is dumpable as its parent's is."""
     lines = [ROOT, "t1 fork t2 p2", f"t2 dumpable {flag}", "t2 exit", "t2 dumped",
              "t1 fork t3 p2", "t3 dumped"]
@@ -190,7 +195,7 @@ def of_ends(flag):
                    "7 dumped t3 -> ok 1")
 
 
-def cases():
+def cases() -> Iterator[suite.Case]:
     """Each event, from both flags."""
     for row, flag in product([*CALLS, *EXECS, *THREADS], (0, 1)):
         case = of_event(*row, flag)

@@ -5,20 +5,25 @@ that it shows by which of them a question is decided. Those that are asked about
 mode, or all but one of six, or the effective ids. Both are in the initial user namespace, in a
 container's, in one below that, or in another container's.
 """
+from collections.abc import Iterator
 from dataclasses import dataclass
 from itertools import product
 
 from reports import Script
+from suite import Case
 
 CAP_KILL, CAP_SYS_PTRACE = 1 << 5, 1 << 19
 # linux/securebits.h: the sets stay where ids change.
 NO_SETUID_FIXUP = 4
-# Of a namespace its parent, if it has one, and its root id, which is the root task's user and group.
+# Of a namespace its parent, if it has one, and its root id, which is the root task's user and
+# group.
 PARENTS = {0: None, 1: 0, 2: 1, 3: 0}
 ROOTS = {0: 0, 1: 100_000, 2: 200_000, 3: 300_000}
 # The real, effective, saved and filesystem ids of those that ask.
 USERS, GROUPS = (10, 20, 30, 40), (11, 21, 31, 41)
 OTHER = 99
+# The real, effective and saved id.
+Ids = tuple[int, ...]
 MODES = "fs", "real"
 # The tasks: root's of each namespace, those that ask, and those that are asked about.
 FIRST_ROOT, FIRST_ASKER, FIRST_TARGET = 1, 10, 50
@@ -41,22 +46,22 @@ class Target:
     """
 
     namespace: int
-    users: tuple
-    groups: tuple
+    users: Ids
+    groups: Ids
     permitted: int
     dumpable: bool
 
 
-def in_or_below(namespace, other):
+def in_or_below(namespace: int | None, other: int) -> bool:
     """user_namespaces(7), "Capabilities": "If a process has a capability in a user namespace, then
     it has that capability in all child (and further removed descendant) namespaces as well."
     """
-    while namespace not in (None, other):
+    while namespace is not None and namespace != other:
         namespace = PARENTS[namespace]
     return namespace == other
 
 
-def allowed(asker, target, mode):
+def allowed(asker: Asker, target: Target, mode: str) -> bool:
     """ptrace(2), "Ptrace access mode checking", of two tasks of different processes."""
     # "If the access mode specifies PTRACE_MODE_FSCREDS, then, for the check in the next step,
     # employ the caller's filesystem UID and GID."
@@ -78,8 +83,8 @@ def allowed(asker, target, mode):
     if not target.dumpable and not capable:
         return False
     # "If the access mode includes PTRACE_MODE_FSCREDS, then use the caller's effective capability
-    # set in the following check; otherwise (the access mode specifies PTRACE_MODE_REALCREDS, so) use
-    # the caller's permitted capability set."
+    # set in the following check; otherwise (the access mode specifies PTRACE_MODE_REALCREDS, so)
+    # use the caller's permitted capability set."
     own = asker.effective if mode == "fs" else asker.permitted
     # "Deny access if neither of the following is true: The caller and the target process are in the
     # same user namespace, and the caller's capabilities are a superset of the target process's
@@ -91,7 +96,7 @@ def allowed(asker, target, mode):
     return True
 
 
-def askers():
+def askers() -> Iterator[Asker]:
     """In each namespace: with both capabilities in both sets, permitted alone, or not at all."""
     for namespace, trace, kill in product(PARENTS, range(3), range(3)):
         sets = [0, 0]
@@ -101,7 +106,7 @@ def askers():
         yield Asker(namespace, *sets)
 
 
-def ids():
+def ids() -> Iterator[tuple[Ids, Ids]]:
     """The ids of those that are asked about, users and groups."""
     for at in (3, 0):
         yield (USERS[at],) * 3, (GROUPS[at],) * 3
@@ -117,7 +122,7 @@ def ids():
     yield (USERS[1],) * 3, (GROUPS[1],) * 3
 
 
-def targets():
+def targets() -> Iterator[Target]:
     """In each namespace: with any of these ids, with or without a capability, dumpable or not."""
     for namespace, (users, groups), permitted, dumpable in product(
         PARENTS, ids(), (0, CAP_KILL), (False, True)
@@ -125,7 +130,7 @@ def targets():
         yield Target(namespace, users, groups, permitted, dumpable)
 
 
-def begun():
+def begun() -> Script:
     """A script with root's tasks, and a child of them for each of those that ask."""
     script = Script()
     script.declares(*(f"ns {it} {ROOTS[it]} {PARENTS[it]}" for it in PARENTS if it))
@@ -141,14 +146,14 @@ def begun():
     return script
 
 
-def child(script, task, namespace, users, groups):
+def child(script: Script, task: int, namespace: int, users: Ids, groups: Ids) -> None:
     """A process of root's there with these ids, and with all capabilities."""
     script.fork(FIRST_ROOT + namespace, task, task)
     script.ids(task, f"setresgid {' '.join(map(str, groups))}")
     script.ids(task, f"setresuid {' '.join(map(str, users))}")
 
 
-def asked_about(script, task, target):
+def asked_about(script: Script, task: int, target: Target) -> None:
     """All of those that ask do so in both modes."""
     child(script, task, target.namespace, target.users, target.groups)
     script.changes(task, f"capset {target.permitted:x} 0 {target.permitted:x}")
@@ -159,7 +164,7 @@ def asked_about(script, task, target):
     script.exit(task)
 
 
-def cases():
+def cases() -> Iterator[Case]:
     """A script for those that are asked about in each namespace."""
     for namespace in PARENTS:
         script, calls = begun(), 0

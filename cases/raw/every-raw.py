@@ -4,13 +4,14 @@ setresuid(2), "C library/kernel differences": "At the kernel level, user IDs and
 per-thread attribute. However, POSIX requires that all threads in a process share the same
 credentials." What the call makes of its thread is what the call's own page says.
 """
-import importlib.util
+from collections.abc import Iterator
 from itertools import islice, product
 from pathlib import Path
 
 from processes import ALL, CHILD, GROUPS, NONE, ROOT, TASK, USERS, Refused, Setting
-from processes import begun, held, make, processes, sets_after
+from processes import Kind, Page, Process, Sets, begun, held, make, processes, sets_after
 from reports import LINES, Script
+from suite import Case, module_of
 
 HERE = Path(__file__).resolve().parent
 SETTING = Setting()
@@ -19,16 +20,14 @@ IDS, GIVEN = (0, 1), (NONE, 0, 1, 2)
 MOST = 1024
 
 
-def page_of(name):
+def page_of(name: str) -> Page:
     """What the page of a call says, as its own cases have it."""
     file = HERE.parent / name / "every-call.py"
-    spec = importlib.util.spec_from_file_location(name, file)
-    module = importlib.util.module_from_spec(spec)
-    spec.loader.exec_module(module)
-    return module.page
+    page: Page = module_of(name, file).page
+    return page
 
 
-def calls(kind):
+def calls(kind: Kind) -> Iterator[tuple[Page, str, tuple[int, ...]]]:
     """The calls of a kind, each with its page and all its arguments."""
     letter = "u" if kind.user else "g"
     for name, width in (("setuid", 1), ("seteuid", 1), ("setreuid", 2), ("setresuid", 3)):
@@ -37,13 +36,15 @@ def calls(kind):
             yield page, name.replace("uid", f"{letter}id"), given
 
 
-def shows(script, task, kind, process, sets):
+def shows(script: Script, task: int, kind: Kind, process: Process, sets: Sets) -> None:
     """Asks a thread for its ids and its sets."""
     script.asks(task, "ids", kind.told(process, 0))
     script.asks(task, "caps", sets.told())
 
 
-def tries(script, process, kind, page, name, given):
+def tries(
+    script: Script, process: Process, kind: Kind, page: Page, name: str, given: tuple[int, ...]
+) -> None:
     """A thread makes the call alone, and its fellow is asked too."""
     script.spawn(TASK, CHILD)
     sets = held(process, kind)
@@ -61,7 +62,7 @@ def tries(script, process, kind, page, name, given):
     script.exit(CHILD)
 
 
-def of_ids(kind):
+def of_ids(kind: Kind) -> Iterator[Case]:
     """Every call of every process."""
     asked = [*calls(kind)]
     # A process takes nine lines to make and to end, and each of its calls seven.
@@ -79,7 +80,7 @@ def of_ids(kind):
         yield script.case(told, len(some) * len(asked))
 
 
-def of_groups():
+def of_groups() -> Case:
     """setgroups(2): "EPERM The calling process has insufficient privilege (the caller does not have
     the CAP_SETGID capability in the user namespace in which it resides)", "EINVAL size is greater
     than NGROUPS_MAX"; docs/RULES.md has 1,024 of them.
@@ -101,7 +102,7 @@ def of_groups():
     return script.case("setgroups", 8)
 
 
-def cases():
+def cases() -> Iterator[Case]:
     yield from of_ids(USERS)
     yield from of_ids(GROUPS)
     yield of_groups()

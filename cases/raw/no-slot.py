@@ -3,12 +3,14 @@
 docs/RULES.md: "A new credential takes the least slot that isn't live; if all are live, the sweep is
 made and the least is looked for again; if there is still none, the table is full."
 """
+from collections.abc import Iterator
+
 import suite
 
 SLOTS = 256
 
 
-def filled():
+def filled() -> Iterator[tuple[str, str]]:
     """A root task, and a hold on each credential that a call gives it: 256 of them."""
     yield "init t1 p1 0 0 n0", "init t1 p1 0 0 n0 -> ok c0 s0"
     for number in range(1, SLOTS):
@@ -19,7 +21,7 @@ def filled():
     yield f"take h{SLOTS} t1", f"take h{SLOTS} t1 -> ok c{last} s{last}"
 
 
-def cases():
+def cases() -> Iterator[suite.Case]:
     """Once h5 is given up, the sweep that the next call makes frees the slot of the fifth one."""
     lines = [
         *filled(),

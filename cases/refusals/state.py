@@ -7,59 +7,10 @@ slot. `aborted` ends the process". So a script with the refused line must be rep
 whose place a comment stands, but for the entries of that line; in the first two exceptions as the
 one where a `sweep` or an `abort` stands in its place.
 """
-from textwrap import shorten
+from collections.abc import Iterator
 
-import suite
-
-INIT = "init t1 p1 0 0 n0"
-# Where a script's setup ends: a comment, or in its place the line that opens a lane. A lane's
-# questions, changes, signals and openings are decided beside the lock. docs/LANES.md: "A script
-# that opens one lane at most has no second legal journal".
-SETUP_ENDS = ("#", ())
-LANE = ("lane 1", ())
-
-
-def own(line, answer):
-    """A line that makes the event that it names, and its entry."""
-    return line, (f"{line} -> {answer}",)
-
-
-def asking(line, label, *events):
-    """A line of a task that takes hold of its credential under its own label for the events."""
-    return line, (f"take {{0}} t{line[1]} -> {label}", *events, "drop {0} -> ok")
-
-
-def report_of(lines):
-    """The script of these lines, and its report. In an entry `{0}` and `{1}` are the line's
-    labels."""
-    entries = []
-    for number, (_, events) in enumerate(lines, 1):
-        labels = [f"h{100_000 + 10 * number + place}" for place in range(2)]
-        entries += [f"{number} {event.format(*labels)}" for event in events]
-    return ("".join(f"{it}\n" for it in its) for its in ([line for line, _ in lines], entries))
-
-
-def named(line):
-    """A line as a name, which is no longer than a line."""
-    return shorten(line[0], 60, placeholder=" ..")
-
-
-def of_setup(line):
-    """Whether a line may stand in the setup alone: a first task, or a change of a file."""
-    words = line[0].split()
-    return words[0] == "init" or words[1:2] and words[1] in ("chown", "chmod", "setattr", "clearattr")
-
-
-def cases_of(name, before, after, refused):
-    """The script without a refused line, and the same with each of these lines; and each of them in
-    a lane, where it may stand there."""
-    in_lane = [LANE if it == SETUP_ENDS else it for it in before]
-    for line in (("#", ()), *refused):
-        yield suite.script(f"{name}: {named(line)}", *report_of([*before, line, *after]))
-        if LANE in in_lane and not of_setup(line):
-            its = report_of([*in_lane, line, *after])
-            yield suite.script(f"{name}, in a lane: {named(line)}", *its)
-
+from refused_lines import INIT, SETUP_ENDS, asking, cases_of, own
+from suite import Case
 
 # Of a process of root's two threads, p1, the first has begun a call that the second has yet to
 # make. The user 1000 acts with an override. There are an open file, three holds, and labels that
@@ -212,24 +163,14 @@ REFUSED = (
     ("t1 close f9", ("close f9 -> ebadf",)),
     ("t9 signal t1", ("take {0} t9 -> no task t9",)),
     asking("t1 signal t9", "ok c3 s8", "takereal {1} t9 -> no task t9"),
-    asking(
-        "t5 signal t1",
-        "ok c2 s2",
-        "takereal {1} t1 -> ok c3 s8",
-        "signal t5 {0} t1 {1} -> eperm",
-        "drop {1} -> ok",
-    ),
+    asking("t5 signal t1", "ok c2 s2", "takereal {1} t1 -> ok c3 s8",
+           "signal t5 {0} t1 {1} -> eperm", "drop {1} -> ok"),
     ("t9 dumpable 0", ("dumpable t9 0 -> no task t9",)),
     ("t1 dumpable 2", ("dumpable t1 2 -> einval",)),
     ("t9 dumped", ("dumped t9 -> no task t9",)),
     asking("t1 ptrace fs t9", "ok c3 s8", "takereal {1} t9 -> no task t9"),
-    asking(
-        "t5 ptrace real t1",
-        "ok c2 s2",
-        "takereal {1} t1 -> ok c3 s8",
-        "ptrace real t5 {0} t1 {1} -> eperm",
-        "drop {1} -> ok",
-    ),
+    asking("t5 ptrace real t1", "ok c2 s2", "takereal {1} t1 -> ok c3 s8",
+           "ptrace real t5 {0} t1 {1} -> eperm", "drop {1} -> ok"),
     ("t9 stat a", ("take {0} t9 -> no task t9",)),
     asking("t5 chown a 2000 -1", "ok c2 s2", "chown {0} a 2000 -1 -> eperm"),
     asking("t5 chmod a 0666", "ok c2 s2", "chmod {0} a 0666 -> eperm"),
@@ -239,7 +180,7 @@ REFUSED = (
 )
 
 
-def at_first():
+def at_first() -> Iterator[Case]:
     """A first task under a number that is taken."""
     other = "init t2 p2 1000 1000 n0"
     behind = (own(other, "ok c1 s1"), asking("t2 bits", "ok c1 s1", "ask {0} bits -> ok 0 0"))
@@ -248,7 +189,7 @@ def at_first():
     )
 
 
-def of_holds():
+def of_holds() -> Iterator[Case]:
     """512 holds: the next label holds nothing, and neither does a question."""
     before = [("file a reg 0 0 0600", ()), own(INIT, "ok c0 s0"), SETUP_ENDS]
     before.append(asking("t1 open a r f1", "ok c0 s0", "open {0} a r f1 -> ok"))
@@ -267,7 +208,7 @@ def of_holds():
     yield from cases_of("holds", before, after, refused)
 
 
-def of_prepared():
+def of_prepared() -> Iterator[Case]:
     """64 labels are prepared: the next keeps no slot."""
     before = [own(INIT, "ok c0 s0"), SETUP_ENDS, own("take h1 t1", "ok c0 s0")]
     before += [own(f"prepare h{label} t1 h1", f"ok s{label - 1}") for label in range(2, 66)]
@@ -280,7 +221,7 @@ def of_prepared():
     yield from cases_of("prepared labels", before, after, refused)
 
 
-def of_tasks():
+def of_tasks() -> Iterator[Case]:
     """64 tasks live: there is no other."""
     inits = [f"init t{task} p{task} 0 0 n0" for task in range(1, 65)]
     before = [own(line, f"ok c{number} s{number}") for number, line in enumerate(inits)]
@@ -299,7 +240,7 @@ def of_tasks():
     yield from cases_of("tasks", before, after, refused)
 
 
-def of_files():
+def of_files() -> Iterator[Case]:
     """256 files are open: there is no other."""
     before = [("file a reg 0 0 0600", ()), own(INIT, "ok c0 s0"), SETUP_ENDS]
     opened = ((f"t1 open a r f{fd}", f"open {{0}} a r f{fd} -> ok") for fd in range(1, 257))
@@ -313,7 +254,7 @@ def of_files():
     yield from cases_of("files", before, after, refused)
 
 
-def of_overrides():
+def of_overrides() -> Iterator[Case]:
     """Eight overrides: there is no ninth, neither of a hold nor of what is prepared for
     access(2)."""
     before = [
@@ -334,7 +275,7 @@ def of_overrides():
     yield from cases_of("overrides", before, after, refused)
 
 
-def of_execve():
+def of_execve() -> Iterator[Case]:
     """A program that isn't given all that its file permits. What a label has prepared before stays,
     and is committed; what it has not prepared yet is not there.
 
@@ -369,15 +310,12 @@ def of_execve():
         own("begin t1 setuid 0", "ok c3 s0 left 0"),
     )
     in_a_call = ("prepare {1} t1 {0} -> ok s4", "change {1} exec a -> eperm", "abort {1} -> ok")
-    refused = (
-        own("change h4 exec a", "eperm"),
-        own("change h5 exec a", "eperm"),
-        asking("t1 exec a", "ok c1 s1", *in_a_call),
-    )
+    refused = [own(f"change {label} exec a", "eperm") for label in ("h4", "h5")]
+    refused.append(asking("t1 exec a", "ok c1 s1", *in_a_call))
     yield from cases_of("an execve", before, after, refused)
 
 
-def of_calls():
+def of_calls() -> Iterator[Case]:
     """Calls of ids whose arguments are invalid: neither of the process's threads gets anything.
 
     setgroups(2): "EINVAL size is greater than NGROUPS_MAX"; docs/RULES.md: "more than 1,024 groups
@@ -410,9 +348,8 @@ def of_calls():
     yield from cases_of("a call of ids", before, after, refused)
 
 
-def exceptions():
-    """256 slots are live, of which a sweep frees none: `table full` has made it. Then a commit
-    comes too late: what was prepared is given up, as by `abort`, and its slot is taken next."""
+def of_slots() -> Iterator[Case]:
+    """256 slots are live, of which a sweep frees none: `table full` has made it."""
     before = [own(INIT, "ok c0 s0"), SETUP_ENDS]
     for number in range(255):
         before.append(own(f"take h{number + 1} t1", f"ok c{number} s{number}"))
@@ -429,6 +366,11 @@ def exceptions():
         ("t1 raw setuid 0", ("raw t1 setuid 0 -> table full",)),
     )
     yield from cases_of("slots", before, after, refused)
+
+
+def too_late() -> Iterator[Case]:
+    """A commit comes too late: what was prepared is given up, as by `abort`, and its slot is taken
+    next."""
     before = (
         own(INIT, "ok c0 s0"),
         SETUP_ENDS,
@@ -443,10 +385,10 @@ def exceptions():
     yield from list(cases_of("too late", before, after, late))[2:]
 
 
-def cases():
+def cases() -> Iterator[Case]:
     """All of them."""
     yield from cases_of("a call is open", BEFORE, AFTER, REFUSED)
     yield from at_first()
     yield from (*of_holds(), *of_prepared(), *of_tasks(), *of_files(), *of_overrides())
     yield from (*of_execve(), *of_calls())
-    yield from exceptions()
+    yield from (*of_slots(), *too_late())

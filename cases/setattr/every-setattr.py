@@ -2,12 +2,14 @@
 without; bytes that are none; how the file stands before and then, and what it gives to whoever
 executes it.
 """
+from collections.abc import Iterator
 from itertools import product
 
 from changed import CAP_CHOWN, CAP_FOWNER, CAP_SETFCAP, GIVES, NET_RAW, File, Process
 from changed import begin, make, setattr_, stranger, tries
 from processes import ALL
 from reports import Script
+from suite import Case
 
 OWNER, GROUP, OTHER = 1, 2, 3
 # Attributes of each version, with flags and bits that say nothing, and what each gives: one of
@@ -22,7 +24,7 @@ GOOD = {
 BAD = ("01", "010000", "01000004" + 16 * "00", NET_RAW + "00", "01000002", "01000001" + 16 * "00")
 
 
-def processes():
+def processes() -> Iterator[Process]:
     """The owner and another; with CAP_SETFCAP, with what serves other calls, with all but it."""
     capabilities = (
         (),
@@ -34,7 +36,7 @@ def processes():
         yield Process(user, OTHER, OTHER, frozenset(some))
 
 
-def cases():
+def cases() -> Iterator[Case]:
     given = [*((it, True) for it in GOOD), *((it, False) for it in BAD), (None, True)]
     for number, process in enumerate(processes()):
         had = product(("reg", "dir"), (True, False))
@@ -47,6 +49,6 @@ def cases():
         for at, (file, (data, is_one)) in enumerate(asked):
             answer, then = setattr_(process, file, data is not None, is_one)
             call = "clearattr" if data is None else "setattr"
-            gives = GOOD.get(data, GIVES) if answer == "ok" else GIVES
+            gives = GOOD.get(data or "", GIVES) if answer == "ok" else GIVES
             tries(script, f"f{at}", file, call, data or "", answer, then, gives)
         yield script.case(f"process-{number}", 4 * len(asked))

@@ -1,10 +1,12 @@
 """Every seteuid(2) and setegid(2) of a process with three ids, one of them root's."""
+from collections.abc import Iterator
 from dataclasses import replace
 
-from processes import GROUPS, NONE, USERS, Refused, followed, table
+from processes import GROUPS, NONE, USERS, Process, Refused, followed, table
+from suite import Case
 
 
-def page(process, euid):
+def page(process: Process, euid: int) -> Process:
     """The process after seteuid(2)."""
     # "EINVAL: The target user or group ID is not valid in this user namespace."
     if euid == NONE:
@@ -17,7 +19,7 @@ def page(process, euid):
     return followed(replace(process, effective=euid))
 
 
-def cases():
+def cases() -> Iterator[Case]:
     """ "Precisely the same holds for setegid() with "group" instead of "user"." """
     yield from table("seteuid", 1, USERS, page)
     yield from table("setegid", 1, GROUPS, page)

@@ -1,10 +1,12 @@
 """Every setfsuid(2) and setfsgid(2) of a process with three ids, one of them root's."""
+from collections.abc import Iterator
 from dataclasses import replace
 
-from processes import GROUPS, NONE, USERS, table, tries_fs
+from processes import GROUPS, NONE, USERS, Process, table, tries_fs
+from suite import Case
 
 
-def page(process, fsuid):
+def page(process: Process, fsuid: int) -> tuple[Process, int]:
     """The process after setfsuid(2), and what the call returns."""
     # "setfsuid() will succeed only if the caller is the superuser or if fsuid matches either the
     # caller's real user ID, effective user ID, saved set-user-ID, or current filesystem user ID."
@@ -16,7 +18,7 @@ def page(process, fsuid):
     return process, process.fs
 
 
-def cases():
+def cases() -> Iterator[Case]:
     """setfsgid(2) has the same sentences, with "group" for "user"."""
     yield from table("setfsuid", 1, USERS, page, tries_fs)
     yield from table("setfsgid", 1, GROUPS, page, tries_fs)

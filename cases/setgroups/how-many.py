@@ -3,9 +3,11 @@
 setgroups(2): "EINVAL size is greater than NGROUPS_MAX (32 before Linux 2.6.4; 65536 since Linux
 2.6.4)"; docs/RULES.md has 1,024, and docs/LINUX.md the difference.
 """
+from collections.abc import Iterator
 from dataclasses import replace
 
 from reports import Script
+from suite import Case
 
 TASK = 1
 MOST = 1024
@@ -13,7 +15,7 @@ MOST = 1024
 COUNTS = (*range(5), 31, 32, 33, 63, 64, 65, 511, 512, 513, 1023, MOST, MOST + 1, 0, 2048, 65_536)
 
 
-def cases():
+def cases() -> Iterator[Case]:
     """A root task sets so many groups, and is asked each time."""
     made = Script()
     made.init(TASK, 1, 0, 0)

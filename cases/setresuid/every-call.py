@@ -1,10 +1,12 @@
 """Every setresuid(2) and setresgid(2) of a process with three ids, one of them root's."""
+from collections.abc import Iterator
 from dataclasses import replace
 
-from processes import GROUPS, NONE, USERS, Refused, followed, table
+from processes import GROUPS, NONE, USERS, Process, Refused, followed, table
+from suite import Case
 
 
-def page(old, ruid, euid, suid):
+def page(old: Process, ruid: int, euid: int, suid: int) -> Process:
     """The process after setresuid(2)."""
     # "An unprivileged process may change its real UID, effective UID, and saved set-user-ID, each
     # to one of: the current real UID, the current effective UID, or the current saved
@@ -20,7 +22,7 @@ def page(old, ruid, euid, suid):
     return followed(new)
 
 
-def cases():
+def cases() -> Iterator[Case]:
     """ "Completely analogously, setresgid() sets the real GID, effective GID, and saved
     set-group-ID [..] with the same restrictions for unprivileged processes."
     """

@@ -1,10 +1,12 @@
 """Every setreuid(2) and setregid(2) of a process with three ids, one of them root's."""
+from collections.abc import Iterator
 from dataclasses import replace
 
-from processes import GROUPS, NONE, USERS, Refused, followed, table
+from processes import GROUPS, NONE, USERS, Process, Refused, followed, table
+from suite import Case
 
 
-def page(old, ruid, euid):
+def page(old: Process, ruid: int, euid: int) -> Process:
     """The process after setreuid(2)."""
     # "Supplying a value of -1 for either the real or effective user ID forces the system to leave
     # that ID unchanged."
@@ -29,7 +31,7 @@ def page(old, ruid, euid):
     return followed(new)
 
 
-def cases():
+def cases() -> Iterator[Case]:
     """ "Completely analogously, setregid() [..], and all of the above holds with "group" instead of
     "user"."
     """

@@ -1,10 +1,12 @@
 """Every setuid(2) and setgid(2) of a process with three ids, one of them root's."""
+from collections.abc import Iterator
 from dataclasses import replace
 
-from processes import GROUPS, NONE, USERS, Refused, followed, table
+from processes import GROUPS, NONE, USERS, Process, Refused, followed, table
+from suite import Case
 
 
-def page(process, uid):
+def page(process: Process, uid: int) -> Process:
     """The process after setuid(2)."""
     # "EINVAL: The user ID specified in uid is not valid in this user namespace."
     if uid == NONE:
@@ -21,7 +23,7 @@ def page(process, uid):
     return followed(replace(process, effective=uid))
 
 
-def cases():
+def cases() -> Iterator[Case]:
     """setgid(2) has the same sentences, with "group" for "user" and CAP_SETGID for CAP_SETUID."""
     yield from table("setuid", 1, USERS, page)
     yield from table("setgid", 1, GROUPS, page)

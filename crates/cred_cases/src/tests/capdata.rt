@@ -1,6 +1,7 @@
-//! Records of capset(2): those that are written are read as they were.
+//! Records of capset(2): those that are written are read as they were. The program writes those of
+//! version 3 alone.
 use crate::tests::parts::ALL;
-use cred_capdata::{CapData, DataRefusal, read_data, write_data};
+use cred_capdata::{CapData, read_data, write_data};
 use cred_caps::CapSet;
 use std::test::Fail;
 
@@ -23,12 +24,4 @@ fn records_are_read_as_they_were_written(rt: HostRuntime) -> Result<(), Fail> {
         assert!(rt; read_data(bytes.items()) == Ok(caps));
     }
     Ok(())
-}
-
-#[test]
-fn other_bytes_are_no_record(rt: HostRuntime) {
-    let header = [0x22, 5, 8, 0x20, 0, 0, 0, 0];
-    assert!(rt; read_data(&header[..7]).err() == Some(DataRefusal::BadLength(7)));
-    assert!(rt; read_data(&header).err() == Some(DataRefusal::BadLength(8)));
-    assert!(rt; read_data(&[0; 8]).err() == Some(DataRefusal::BadVersion(0)));
 }

@@ -1,8 +1,6 @@
-//! Texts of file capabilities: those that are written are read as they were, and of others the byte
-//! is found at which they go wrong.
-use crate::tests::parts::ALL;
+//! Texts of file capabilities: those that are written are read as they were. No command writes one.
 use cred_caps::CapSet;
-use cred_captext::{TextRefusal, print_text, read_text};
+use cred_captext::{print_text, read_text};
 use cred_filecap::FileCaps;
 use cred_ids::NoMemory;
 use std::alloc::Global;
@@ -18,11 +16,22 @@ const WRITTEN: [&str; 6] = [
     "cap_chown=p cap_fowner=ip cap_fsetid=i",
 ];
 
+/// Whether the text that is written for an attribute is the one that says it.
+fn is_written(alloc: Global, text: &[u8]) -> Result<bool, NoMemory> {
+    let Ok(caps) = read_text(text) else {
+        return Ok(false);
+    };
+    let written = print_text(alloc, &caps)?;
+    let is_same = written.items() == text;
+    drop(written);
+    Ok(is_same)
+}
+
 #[test]
 fn texts_are_written_as_they_were_read(rt: HostRuntime) -> Result<(), Fail> {
-    for text in &WRITTEN {
-        let caps = read_text(text.as_bytes()).map_err(|_| "refused")?;
-        assert!(rt; print_text(rt.alloc(), &caps)?.items() == text.as_bytes());
+    for text in WRITTEN {
+        let is_written = is_written(rt.alloc(), text.as_bytes())?;
+        assert!(rt; is_written, "{text}");
     }
     Ok(())
 }
@@ -35,35 +44,6 @@ fn attribute(perm: u64, inh: u64, effective: bool) -> FileCaps {
         inh: CapSet::cut(inh),
         effective,
         root: 0,
-    }
-}
-
-#[test]
-fn texts_of_many_actions(rt: HostRuntime) {
-    let texts = [
-        ("all=eip cap_chown-eip", ALL - 1, ALL - 1, true),
-        ("=p cap_kill=i", ALL - 32, 32, false),
-        ("cap_chown+p-p", 0, 0, false),
-        ("cap_bpf=+p+i", 1 << 39, 1 << 39, false),
-    ];
-    for (text, perm, inh, effective) in texts {
-        assert!(rt; read_text(text.as_bytes()) == Ok(attribute(perm, inh, effective)));
-    }
-}
-
-#[test]
-fn texts_that_go_wrong(rt: HostRuntime) {
-    let texts: [(&[u8], TextRefusal); 7] = [
-        (b"", TextRefusal::Bad(0)),
-        (b"+p", TextRefusal::Bad(0)),
-        (b"cap_net_raw", TextRefusal::Bad(11)),
-        (b"cap_net_raw=x", TextRefusal::Bad(12)),
-        (b"all,", TextRefusal::Bad(3)),
-        (b"cap_chown=p ", TextRefusal::Bad(12)),
-        (b"cap_chown=p cap_chown=e", TextRefusal::Mixed),
-    ];
-    for (text, refusal) in texts {
-        assert!(rt; read_text(text).err() == Some(refusal));
     }
 }
 
@@ -80,7 +60,9 @@ fn next(number: u64) -> u64 {
 /// Whether the text of an attribute says it.
 fn is_said(alloc: Global, caps: &FileCaps) -> Result<bool, NoMemory> {
     let text = print_text(alloc, caps)?;
-    Ok(read_text(text.items()) == Ok(*caps))
+    let is_said = read_text(text.items()) == Ok(*caps);
+    drop(text);
+    Ok(is_said)
 }
 
 /// The first of many attributes, by its number, whose text says another. The high bits of a number
@@ -101,6 +83,7 @@ fn first_other(alloc: Global) -> Result<Option<u32>, NoMemory> {
 
 #[test]
 fn what_is_written_is_read(rt: HostRuntime) -> Result<(), Fail> {
-    assert_eq!(rt; first_other(rt.alloc())?, None);
+    let other = first_other(rt.alloc())?;
+    assert!(rt; other.is_none(), "{other:?}");
     Ok(())
 }

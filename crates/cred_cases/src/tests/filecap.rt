@@ -1,6 +1,8 @@
 //! Attributes as no script has them: bytes that are written, none at all, and a task in no user
 //! namespace.
 use cred_filecap::{AttrRefusal, counts, decode, encode};
+use cred_ids::NoMemory;
+use std::alloc::Global;
 use std::test::Fail;
 
 /// In version 1: the permitted set with every bit, and every other one in the inheritable set.
@@ -33,30 +35,43 @@ const MIXED: [u8; 20] = [
     0, 0, 0, 2, 2, 0, 0, 0, 0, 0, 0, 0x80, 0, 1, 0, 0, 1, 0, 0, 0,
 ];
 
+/// The permitted set as it is written: with the bits of capabilities alone.
+const PERMITTED_ALONE: [u8; 20] = [
+    0, 0, 0, 2, 0xff, 0xff, 0xff, 0xff, 0, 0, 0, 0, 0xff, 1, 0, 0, 0, 0, 0, 0,
+];
+
+/// The inheritable set so, and the effective flag alone.
+const INHERITABLE_ALONE: [u8; 24] = [
+    1, 0, 0, 3, 0, 0, 0, 0, 0xff, 0xff, 0xff, 0xff, 0, 0, 0, 0, 0xff, 1, 0, 0, 0xff, 0xff, 0xff,
+    0xff,
+];
+
+/// Attributes, and how each is written.
+const WRITTEN: [(&[u8], &[u8]); 6] = [
+    (&OLDEST, &OLDEST),
+    (&NET_RAW, &NET_RAW),
+    (&NAMESPACED, &NAMESPACED),
+    (&PERMITTED, &PERMITTED_ALONE),
+    (&INHERITABLE, &INHERITABLE_ALONE),
+    (&MIXED, &MIXED),
+];
+
+/// Whether what the bytes spell is written so.
+fn is_written(alloc: Global, bytes: &[u8], written: &[u8]) -> Result<bool, NoMemory> {
+    let Ok(caps) = decode(bytes) else {
+        return Ok(false);
+    };
+    let attr = encode(alloc, &caps)?;
+    let is_same = attr.items() == written;
+    drop(attr);
+    Ok(is_same)
+}
+
 #[test]
 fn what_is_written_is_what_was_read(rt: HostRuntime) -> Result<(), Fail> {
-    let mut permitted = PERMITTED;
-    permitted[13] = 1;
-    permitted[14] = 0;
-    permitted[15] = 0;
-    let mut inheritable = INHERITABLE;
-    inheritable[0] = 1;
-    inheritable[1] = 0;
-    inheritable[2] = 0;
-    inheritable[17] = 1;
-    inheritable[18] = 0;
-    inheritable[19] = 0;
-    let cases: &[(&[u8], &[u8])] = &[
-        (&OLDEST, &OLDEST),
-        (&NET_RAW, &NET_RAW),
-        (&NAMESPACED, &NAMESPACED),
-        (&PERMITTED, &permitted),
-        (&INHERITABLE, &inheritable),
-        (&MIXED, &MIXED),
-    ];
-    for (bytes, written) in cases {
-        let caps = decode(bytes).map_err(|_| "refused")?;
-        assert!(rt; encode(rt.alloc(), &caps)?.items() == *written);
+    for (bytes, written) in WRITTEN {
+        let is_written = is_written(rt.alloc(), bytes, written)?;
+        assert!(rt; is_written, "{bytes:?}");
     }
     Ok(())
 }

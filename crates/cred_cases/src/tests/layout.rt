@@ -21,6 +21,14 @@ fn with_groups(alloc: Global, groups: &[Id]) -> Result<Cred, Fail> {
     Ok(cred)
 }
 
+/// The words of that credential.
+fn words_with(alloc: Global, groups: &[Id]) -> Result<[u64; WORDS], Fail> {
+    let cred = with_groups(alloc, groups)?;
+    let words = to_words(&cred);
+    drop(cred);
+    Ok(words)
+}
+
 /// The first words of that credential with the groups 5, 4 and 9. The others are 0.
 const LAID_OUT: [u64; 14] = [
     1000 << 32 | 100000,
@@ -49,22 +57,39 @@ fn are_laid_out(words: &[u64; WORDS]) -> bool {
     true
 }
 
+/// Whether the credential of the words is that one.
+fn are_read_again(alloc: Global, words: &[u64; WORDS]) -> Result<bool, NoMemory> {
+    let Some(cred) = of_words(alloc, words)? else {
+        return Ok(false);
+    };
+    let is_same = are_laid_out(&to_words(&cred));
+    drop(cred);
+    Ok(is_same)
+}
+
 #[test]
 fn words_have_the_layout_and_are_read_again(rt: HostRuntime) -> Result<(), Fail> {
-    let cred = with_groups(rt.alloc(), &[id(5)?, id(4)?, id(9)?])?;
-    let words = to_words(&cred);
+    let words = words_with(rt.alloc(), &[id(5)?, id(4)?, id(9)?])?;
     assert!(rt; are_laid_out(&words));
-    let again = of_words(rt.alloc(), &words)?.ok_or("no credential")?;
-    assert!(rt; are_laid_out(&to_words(&again)));
+    let is_read = are_read_again(rt.alloc(), &words)?;
+    assert!(rt; is_read);
     Ok(())
+}
+
+/// The words of that credential with as many groups as one may have, each of which is group 8.
+fn most_words(alloc: Global) -> Result<[u64; WORDS], Fail> {
+    let groups = vec![in alloc; id(8)?; limits::GROUP_LIMIT]?;
+    let words = words_with(alloc, groups.as_slice());
+    drop(groups);
+    words
 }
 
 #[test]
 fn the_last_group_stands_in_the_last_word(rt: HostRuntime) -> Result<(), Fail> {
-    let groups = vec![in rt.alloc(); id(8)?; limits::GROUP_LIMIT]?;
-    let most = to_words(&with_groups(rt.alloc(), groups.as_slice())?);
+    let most = most_words(rt.alloc())?;
     assert_eq!(rt; most[GROUPS + limits::GROUP_LIMIT / 2 - 1], 0x8_0000_0008);
-    assert!(rt; of_words(rt.alloc(), &most)?.is_some());
+    let is_one = is_credential(rt.alloc(), &most)?;
+    assert!(rt; is_one);
     Ok(())
 }
 
@@ -87,13 +112,17 @@ const OTHERS: [(usize, u64); 13] = [
 
 /// Whether the words are a credential's.
 fn is_credential(alloc: Global, words: &[u64; WORDS]) -> Result<bool, NoMemory> {
-    Ok(of_words(alloc, words)?.is_some())
+    let cred = of_words(alloc, words)?;
+    let is_some = cred.is_some();
+    drop(cred);
+    Ok(is_some)
 }
 
 #[test]
 fn other_words_are_no_credential(rt: HostRuntime) -> Result<(), Fail> {
-    let words = to_words(&with_groups(rt.alloc(), &[id(4)?, id(5)?])?);
-    assert!(rt; is_credential(rt.alloc(), &words)?);
+    let words = words_with(rt.alloc(), &[id(4)?, id(5)?])?;
+    let is_one = is_credential(rt.alloc(), &words)?;
+    assert!(rt; is_one);
     for (place, word) in OTHERS {
         let mut other = words;
         assert!(rt; place < WORDS);

@@ -1,5 +1,4 @@
 //! What no script asks, a module for each crate whose calls it makes.
-mod attr;
 mod capdata;
 mod caps;
 mod captext;

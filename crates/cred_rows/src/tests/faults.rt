@@ -72,7 +72,8 @@ const SERVICE_REPORT: &str = "2 init t1 p1 0 0 n0 -> ok c0 s0\n\
     12 drop h100120 -> ok\n";
 
 /// The words of a command line, whether the command reads, the parts of its input, what it writes
-/// for that, each line in a write of its own where that moves all, and how it ends.
+/// for that, and how it ends. Where one write moves all, each is a line; or, of a run in order, the
+/// entries of a line of its script.
 type Asked = (
     &'static [&'static str],
     bool,
@@ -171,14 +172,37 @@ fn joined(alloc: Global, parts: &[&str]) -> Result<Vec<u8>, NoMemory> {
     Ok(input)
 }
 
-/// How much of a text is written by no write, by one, by two and so on. A write ends with a line,
+/// Where the writes of a text end that move all that they can: with a line of the text; or, of a
+/// run in order, with the last entry of each line of its script.
+fn ends(alloc: Global, text: &str, is_run: bool) -> Result<Vec<usize>, NoMemory> {
+    let mut ends = Vec::new(alloc);
+    let mut end = 0usize;
+    let mut number = "";
+    for entry in text.split_inclusive('\n') {
+        let own = entry.split(' ').next().unwrap_or("");
+        if !is_run || own != number {
+            ends.push(end)?;
+        }
+        number = own;
+        end = end.saturating_add(entry.len());
+    }
+    ends.push(end)?;
+    Ok(ends)
+}
+
+/// How much of a text is written by no write, by one, by two and so on, where a write ends there,
 /// or with a piece.
-fn reaches(alloc: Global, text: &str, piece: usize) -> Result<Vec<usize>, NoMemory> {
+fn reaches(
+    alloc: Global,
+    text: &str,
+    piece: usize,
+    ends: &[usize],
+) -> Result<Vec<usize>, NoMemory> {
     let mut reaches = vec![in alloc; 0]?;
     let mut moved = 0usize;
-    for (byte, reach) in text.as_bytes().iter().zip(1..) {
+    for (_, reach) in text.as_bytes().iter().zip(1..) {
         moved = moved.saturating_add(1);
-        if *byte == b'\n' || moved == piece {
+        if moved == piece || ends.contains(&reach) {
             reaches.push(reach)?;
             moved = 0;
         }
@@ -274,7 +298,8 @@ fn others_of<R: AllocGlobal + Threads + Wait + Sync>(
         piece,
         failing: 0,
     };
-    let reaches = reaches(rt.alloc(), asked.3, piece)?;
+    let ends = ends(rt.alloc(), asked.3, matches!(asked.0, ["run"]))?;
+    let reaches = reaches(rt.alloc(), asked.3, piece, &ends)?;
     let write = other_write(rt, asked, &given, &reaches);
     drop(reaches);
     Ok([other_read(rt, asked, input, piece)?, write?])

@@ -128,7 +128,7 @@ fn is_entered(
     ensures words { book.new.words ≡ book.old.words }
 {
     book.event(cells, line, event_of(call)?)?;
-    let entry = book.journal().last().ok_or("an entry")?;
+    let entry = book.entries().last().ok_or("an entry")?;
     let printed = print(alloc, book.script(), entry)?;
     Ok(printed.items() == text.as_bytes())
 }

@@ -160,7 +160,7 @@ fn first_other(
     reached: &mut Vec<Reached>,
 ) -> Result<Option<Other>, NoMemory> {
     let mut lists = Lists::new(alloc);
-    if let Some(place) = first_entry(book.journal(), &mut lists, reached)? {
+    if let Some(place) = first_entry(book.entries(), &mut lists, reached)? {
         return Ok(Some(Other::Entry(place)));
     }
     let used = lists.used()?;

@@ -170,7 +170,7 @@ fn entered(alloc: Global, cells: &Cells, book: &mut Book, call: Call) -> Result<
 {
     let event = event_of(book.script(), call)?;
     book.event(cells, line_of(call), event)?;
-    let entry = book.journal().last().ok_or("an entry")?;
+    let entry = book.entries().last().ok_or("an entry")?;
     Ok(print(alloc, book.script(), entry)?)
 }
 
