@@ -1,4 +1,4 @@
-"""The names of capabilities and securebits (capabilities(7)), for all tools: they stand here once."""
+"""The names of capabilities and securebits (capabilities(7)), for all tools."""
 
 # In the order of their numbers.
 CAPABILITIES = (
@@ -15,3 +15,7 @@ SECUREBITS = (
     "NO_CAP_AMBIENT_RAISE NO_CAP_AMBIENT_RAISE_LOCKED EXEC_RESTRICT_FILE "
     "EXEC_RESTRICT_FILE_LOCKED EXEC_DENY_INTERACTIVE EXEC_DENY_INTERACTIVE_LOCKED"
 ).split()
+
+# The set of all, and the bit of each securebit.
+ALL_CAPABILITIES = (1 << len(CAPABILITIES)) - 1
+SECUREBIT_VALUES = {f"SECBIT_{name}": 1 << place for place, name in enumerate(SECUREBITS)}

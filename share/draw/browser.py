@@ -103,7 +103,8 @@ class Browser:
             self.told.append(message)
         if "error" in message:
             raise NoAnswer(f"{method}: {message['error'].get('message')}")
-        return message["result"]
+        result: dict[str, Any] = message["result"]
+        return result
 
     def message(self, end: float) -> dict[str, Any]:
         """The next message, up to a time."""
@@ -114,7 +115,8 @@ class Browser:
                 raise NoAnswer("the browser doesn't answer")
             self.rest += more
         text, _, self.rest = self.rest.partition(b"\0")
-        return json.loads(text)
+        message: dict[str, Any] = json.loads(text)
+        return message
 
     def screen(self, width: int, height: int, dark: bool, scale: float = 1) -> None:
         """The size of the page's window, and whether dark pages are wanted."""

@@ -8,6 +8,7 @@ import re
 import sys
 from collections import Counter
 from html.parser import HTMLParser
+from typing import Any
 
 from . import command, names, page
 from .spans import BAND, FILE, HOLD, OVERRIDE, PREPARED
@@ -18,6 +19,9 @@ from .window import Window
 BEGINNING = ("take", "takereal", "takefile", "prepare", "open")
 ENDING = ("drop", "commit", "abort", "close")
 LAST_NAMED = ("open", "override")
+# The attributes of an element, and what a page is made of.
+Attributes = list[tuple[str, str | None]]
+Data = dict[str, Any]
 
 
 class Shape(HTMLParser):
@@ -26,10 +30,10 @@ class Shape(HTMLParser):
     def __init__(self) -> None:
         """Nothing is read yet."""
         super().__init__()
-        self.elements: list[tuple[str, list]] = []
+        self.elements: list[tuple[str, Attributes]] = []
         self.raw: list[str] = []
 
-    def handle_starttag(self, tag: str, attrs: list) -> None:
+    def handle_starttag(self, tag: str, attrs: Attributes) -> None:
         """An element begins."""
         self.elements.append((tag, attrs))
         if tag in ("script", "style"):
@@ -46,7 +50,7 @@ def wrong(what: str) -> None:
     sys.exit("draw/check: " + what.encode("ascii", "backslashreplace").decode())
 
 
-def page_of(text: str, first: int = 1, last: int | None = None) -> tuple[str, dict]:
+def page_of(text: str, first: int = 1, last: int | None = None) -> tuple[str, Data]:
     """The page of a report, and the data that it was made of."""
     story, texts = command.read(io.BytesIO(text.encode("utf-8")), first, last)
     data = Window(story, first, first + len(texts) - 1).data(texts) | names.tables()
@@ -87,7 +91,7 @@ def check_page(name: str, text: str, skeleton: Shape) -> None:
     check_slots(name, lines, data)
 
 
-def check_entry(name: str, line: str, data: dict, place: int) -> None:
+def check_entry(name: str, line: str, data: Data, place: int) -> None:
     """An entry has its kind, and its row is that of the task that it names."""
     words, told = parts(line)
     event = " ".join(words)
@@ -104,7 +108,7 @@ def check_entry(name: str, line: str, data: dict, place: int) -> None:
         wrong(f"{name}: it stands in the row of {row}")
 
 
-def check_bands(name: str, lines: list[str], data: dict) -> None:
+def check_bands(name: str, lines: list[str], data: Data) -> None:
     """Bands begin where an entry makes a credential a task's current one, and nowhere else."""
     spans, credentials = data["spans"], data["credentials"]
     begins = {
@@ -146,7 +150,7 @@ def named_ends(lines: list[str]) -> dict[tuple[str, int], int]:
     return found
 
 
-def check_ends(name: str, lines: list[str], data: dict) -> None:
+def check_ends(name: str, lines: list[str], data: Data) -> None:
     """Holds, prepared labels and open files last as long as their entries say."""
     spans = data["spans"]
     ends = {
@@ -166,7 +170,7 @@ def bands_ended(event: str, told: list[str]) -> int:
     return 1 + (int(told[4]) if "ended" in told else 0)
 
 
-def check_tasks(name: str, lines: list[str], data: dict) -> None:
+def check_tasks(name: str, lines: list[str], data: Data) -> None:
     """As many bands and overrides end by an entry as it says."""
     spans = data["spans"]
     ended = Counter(zip(spans["kind"], spans["end"]))
@@ -184,7 +188,7 @@ def check_tasks(name: str, lines: list[str], data: dict) -> None:
             wrong(f"{name}, entry {place}: bands or overrides end that don't, or the other way")
 
 
-def check_slots(name: str, lines: list[str], data: dict) -> None:
+def check_slots(name: str, lines: list[str], data: Data) -> None:
     """Each credential stands in the slot that entries say."""
     slots = {entry[0]: data["slots"][entry[1]] for entry in data["credentials"]}
     for line in lines:

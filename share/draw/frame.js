@@ -82,7 +82,7 @@ function paintLines(view) {
 // Above the rows: the lines of the script, and the entries' numbers.
 function paintAxis(view) {
   const { ctx, model, theme } = view;
-  const [from, to] = [view.firstShown(), view.lastShown()];
+  const [from, to] = [view.firstShown(), view.lastShown()].map((at) => columnOf(model, at));
   rect(view, view.left, 0, view.width, AXIS - 2, theme.paper);
   rect(view, view.left, AXIS - 2, view.width, 1, theme.line);
   ctx.font = FONT;
@@ -90,9 +90,12 @@ function paintAxis(view) {
   if (view.w > 2) paintLines(view);
   const step = stepFor(view, (String(model.last).length + 2) * view.charWidth);
   ctx.fillStyle = theme.faint;
-  for (let at = Math.ceil(from / step) * step; at <= to; at += step) {
-    const left = view.w > NARROW ? x(view, at) + 4 : markX(view, at);
-    if (left >= view.left) ctx.fillText(String(at), left, 22);
+  // Where each entry has a column, their numbers are round ones.
+  const offset = model.places.length === model.count ? model.first : 0;
+  for (let at = Math.ceil((from + offset) / step) * step - offset; at <= to; at += step) {
+    const place = model.places[at];
+    const left = view.w > NARROW ? x(view, place) + 4 : markX(view, place);
+    if (left >= view.left) ctx.fillText(String(place), left, 22);
   }
 }
 
@@ -164,13 +167,13 @@ function paint(view) {
 // How many of these entries each pixel's entries have among them, as bars that stand on a line.
 function overviewBars(view, ctx, width, places, [foot, tall], fill) {
   const { model } = view;
-  const wide = Math.min(Math.max(width / model.count, 1), 3);
+  const wide = Math.min(Math.max(width / model.places.length, 1), 3);
   const counts = new Map();
   for (const at of places) {
-    const left = Math.floor(((at - model.first) * width) / model.count);
+    const left = Math.floor((columnOf(model, at) * width) / model.places.length);
     counts.set(left, (counts.get(left) || 0) + 1);
   }
-  const each = Math.max(model.count / width, 1);
+  const each = Math.max(model.places.length / width, 1);
   ctx.fillStyle = fill;
   for (const [left, found] of counts) {
     const high = Math.max(tall * Math.sqrt(Math.min(found / each, 1)), 2);
@@ -189,7 +192,7 @@ function paintOverview(view) {
   ctx.setTransform(view.ratio, 0, 0, view.ratio, 0, 0);
   ctx.fillStyle = theme.paper;
   ctx.fillRect(0, 0, width, height);
-  const scale = width / model.count;
+  const scale = width / model.places.length;
   overviewBars(view, ctx, width, model.news, [height, height - 20], theme.faint);
   overviewBars(view, ctx, width, view.hits || [], [20, 5], theme.pick);
   overviewBars(view, ctx, width, model.refusals, [13, 13], theme.bad);

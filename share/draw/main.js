@@ -23,16 +23,19 @@ function summary(model) {
 // Which entries the filters leave: those that tell of the capability.
 function filter(view) {
   const hits = view.cap < 0 ? null : placesOfCap(view.model, view.cap);
-  view.hits = hits;
-  view.marked = hits && new Set(hits);
+  view.hits = hits && hits.filter((at) => hasColumn(view.model, at));
+  view.marked = view.hits && new Set(view.hits);
   byId("hits").hidden = hits === null;
-  if (hits) byId("hitcount").textContent = count(hits.length, "entry", "entries");
+  if (hits) byId("hitcount").textContent = count(view.hits.length, "entry", "entries");
+  fillList(view);
   refresh(view, true);
 }
 
 // The next of these entries that is shown, or the one before.
 function step(view, places, forward) {
-  const shown = places.filter((place) => isShown(view, view.model.rowOf(place)));
+  const { model } = view;
+  const here = (place) => isShown(view, model.rowOf(place)) && hasColumn(model, place);
+  const shown = places.filter(here);
   const from = view.picked || (forward ? view.firstShown() - 1 : view.lastShown() + 1);
   const at = forward ? lastUpTo(shown, from, itself) + 1 : lastUpTo(shown, from - 1, itself);
   if (shown[at] !== undefined) choose(view, shown[at]);
@@ -52,8 +55,8 @@ function onKey(view, event) {
   const keys = {
     ArrowRight: () => step(view, near, true),
     ArrowLeft: () => step(view, near, false),
-    Home: () => choose(view, view.model.first),
-    End: () => choose(view, view.model.last),
+    Home: () => choose(view, view.model.places[0]),
+    End: () => choose(view, view.model.places[view.model.places.length - 1]),
     r: () => step(view, view.model.refusals, true),
     R: () => step(view, view.model.refusals, false),
     n: () => step(view, view.model.news, true),
@@ -128,7 +131,8 @@ function connectPointer(view) {
   scroller.addEventListener("keydown", (event) => onKey(view, event));
   const jump = (event) => {
     const part = event.offsetX / overview.clientWidth;
-    scroller.scrollLeft = part * view.model.count * view.w - (view.width - view.left) / 2;
+    const all = view.model.places.length * view.w;
+    scroller.scrollLeft = part * all - (view.width - view.left) / 2;
   };
   overview.addEventListener("pointerdown", jump);
   overview.addEventListener("pointermove", (event) => event.buttons & 1 && jump(event));
@@ -145,6 +149,13 @@ function connectControls(view) {
   CAPS.forEach((name, number) => byId("cap").append(new Option(name, number)));
   byId("cap").addEventListener("change", (event) => {
     view.cap = event.target.value === "" ? -1 : Number(event.target.value);
+    filter(view);
+  });
+  byId("holds").checked = view.holds;
+  byId("holds").addEventListener("change", (event) => {
+    view.holds = event.target.checked;
+    fold(model, !view.holds);
+    view.w = 0;
     filter(view);
   });
   for (const id of ["slots", "fold"]) {
@@ -166,14 +177,18 @@ function connectControls(view) {
 }
 
 function start() {
-  const model = readModel(JSON.parse(byId("data").textContent));
+  const data = JSON.parse(byId("data").textContent);
+  const model = readModel(data);
   const view = newView(model);
+  for (const name of data.shown || []) view[name] = true;
+  fold(model, !view.holds);
   byId("sum").textContent = summary(model);
   readTheme(view);
   connectControls(view);
   connectPointer(view);
   const hint = "Point at an entry, or choose one, to read it with its sets as names.";
   tell(view.panel, [["faint", hint]]);
+  fillList(view);
   window.addEventListener("resize", () => refresh(view, true));
   window.matchMedia("(prefers-color-scheme: dark)").addEventListener("change", () => {
     readTheme(view);

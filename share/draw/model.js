@@ -49,15 +49,16 @@ function readSpans(data, model) {
       kind: kind[at], label: label[at], cred: model.credentials[cred[at]] || null,
       start: start[at], end: end[at], kept: kept[at], row: model.rows[row[at]],
     };
+    const folds = span.kind === HOLD || span.kind === PREPARED;
     if (span.kind === BAND) span.row.bands.push(span);
-    else put(span.row.levels, level[at], span);
+    else put(folds ? span.row.held : span.row.lasting, level[at], span);
     if (span.cred && held[at] >= 0) put(model.slots[span.cred.slot].levels, held[at], span);
     if (span.kept >= 0) model.slots[span.kept].kept.push(span);
   }
 }
 
 function readRows(data, model) {
-  data.of.forEach((row, at) => model.rows[row].entries.push(model.first + at));
+  data.of.forEach((row, at) => model.rows[row].all.push(model.first + at));
   for (const change of data.changes) {
     const [place, row, since, sets, asked, gain] = change;
     const told = { place, row: model.rows[row], since, sets, asked, gain };
@@ -69,7 +70,39 @@ function readRows(data, model) {
 }
 
 function newRow(name, note, place) {
-  return { name, note, place, entries: [], bands: [], levels: [], changes: [], y: -1, band: 0 };
+  return {
+    name, note, place, all: [], entries: [], bands: [], lasting: [], held: [], levels: [],
+    changes: [], y: -1, band: 0,
+  };
+}
+
+// What a line takes and prepares for itself has no column where holds are folded.
+function fold(model, folded) {
+  model.folded = folded;
+  const isMinor = (place) => model.kinds[place - model.first] === "m";
+  model.places = [];
+  model.columns = new Int32Array(model.count + 1);
+  for (let at = 0; at < model.count; at++) {
+    model.columns[at] = model.places.length;
+    if (!folded || model.kinds[at] !== "m") model.places.push(model.first + at);
+  }
+  // A part of a report may have nothing else.
+  if (model.places.length === 0) return fold(model, false);
+  model.columns[model.count] = model.places.length;
+  for (const row of model.rows) {
+    row.entries = folded ? row.all.filter((place) => !isMinor(place)) : row.all;
+    row.levels = folded ? row.lasting : [...row.lasting, ...row.held];
+  }
+}
+
+// The column of an entry; one that has none begins where the next one does.
+function columnOf(model, at) {
+  const place = at - model.first;
+  return place < 0 ? place : model.columns[Math.min(place, model.count)];
+}
+
+function hasColumn(model, at) {
+  return model.places[columnOf(model, at)] === at;
 }
 
 function readModel(data) {
@@ -77,7 +110,7 @@ function readModel(data) {
   const texts = data.texts.split("\n");
   const model = {
     first: data.first, last: data.last, total: data.total, count: texts.length, texts,
-    kinds: data.kinds, sweeps: data.sweeps, changes: new Map(),
+    kinds: data.kinds, sweeps: data.sweeps, changes: new Map(), why: new Map(data.why),
     lines: texts.map((text) => parseInt(text, 10)),
     rows: data.rows.map(([name, process], place) => newRow(name, process, place)),
     slots: data.slots.map((name) => ({ name, lives: [], kept: [], levels: [], y: -1 })),
@@ -85,13 +118,14 @@ function readModel(data) {
   };
   model.rowOf = (place) => model.rows[data.of[place - model.first]];
   model.text = (place) => texts[place - model.first];
-  model.kind = (place) => data.kinds[place - model.first];
+  model.kind = (place) => (data.kinds[place - model.first]).replace("m", "o");
   model.line = (place) => model.lines[place - model.first];
   model.links = data.links.map(([kind, start, row, end, to]) => ({
     kind, start, row: model.rows[row], end, to: model.rows[to],
   }));
   readSpans(data, model);
   readRows(data, model);
+  fold(model, true);
   model.refusals = placesOf(model, "x");
   model.news = placesOf(model, "n");
   return model;

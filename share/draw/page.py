@@ -17,7 +17,7 @@ from typing import Any
 HERE = Path(__file__).resolve().parent
 
 # The parts of the script, in their order.
-SCRIPTS = ("names", "model", "layout", "text", "paint", "slots", "frame", "view", "main")
+SCRIPTS = ("names", "model", "layout", "text", "paint", "slots", "frame", "view", "list", "main")
 
 
 def part(name: str) -> str:

@@ -8,7 +8,7 @@ const BOLD = "bold 11px " + MONO;
 const NARROW = 7;
 
 function x(view, at) {
-  return view.left + (at - view.model.first) * view.w - view.scrollX;
+  return view.left + columnOf(view.model, at) * view.w - view.scrollX;
 }
 
 // Where in its column an entry's mark stands.
@@ -61,7 +61,7 @@ function fillOf(view, cred, left, top, right, height) {
   ctx.globalAlpha = sets ? (has(sets[2], view.cap) ? 1 : inAny ? 0.45 : 0.06) : 0.2;
   rect(view, left, top, right, height, colour(view, cred));
   ctx.globalAlpha = 1;
-  if (!sets) rect(view, left, top, right, height, view.hatch);
+  if (!sets) rect(view, left, top, right, height, view.dots);
   if (right - left > 2) frame(view, left, top, right, height, colour(view, cred), []);
 }
 

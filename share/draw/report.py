@@ -5,7 +5,7 @@ from __future__ import annotations
 import re
 from collections.abc import Iterator
 from dataclasses import dataclass
-from typing import BinaryIO
+from typing import Protocol
 
 # A line that a report can have is shorter by far: 1,024 groups are 11,264 characters.
 LONGEST = 65_536
@@ -143,7 +143,14 @@ def entry_of(text: str, place: int) -> Entry:
     return Entry(text, int(words[0]), words[1:arrow], words[arrow + 1 :])
 
 
-def entries(source: BinaryIO) -> Iterator[Entry]:
+class Lines(Protocol):
+    """What lines are read from."""
+
+    def readline(self, limit: int, /) -> bytes:
+        """The next line, or as much of it."""
+
+
+def entries(source: Lines) -> Iterator[Entry]:
     """The entries, in their order."""
     place = 0
     while line := source.readline(LONGEST + 1):

@@ -8,7 +8,7 @@ from dataclasses import dataclass
 
 from .spans import OPEN, Span
 from .story import Story
-from .told import Credential
+from .credentials import Credential
 
 
 @dataclass(slots=True)

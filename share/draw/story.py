@@ -6,14 +6,27 @@ as it goes: what was never begun doesn't end, and whoever is named has a row.
 
 from __future__ import annotations
 
+from collections.abc import Sequence
 from dataclasses import dataclass, field
 
 from .report import Entry
 from .spans import BAND, FILE, HOLD, OVERRIDE, PREPARED, Row, Span
-from .told import Credential, Seal
+from .credentials import Credential, Seal
 
-# What an entry is, in one letter: the page draws each in another way.
-PLAIN, REFUSED, NEW = "o", "x", "n"
+# What an entry is, in one letter: the page draws each in another way. What a line does for itself
+# is left out of the picture, unless holds are asked for.
+PLAIN, REFUSED, NEW, MINOR = "o", "x", "n", "m"
+MINOR_EVENTS = frozenset(("take", "takereal", "takefile", "drop", "prepare", "change", "abort"))
+# Labels that a line takes for itself have so many digits.
+OWN_DIGITS = 6
+
+
+def kind_of(entry: Entry) -> str:
+    """What an entry is, where it gives no task another credential."""
+    if not entry.is_ok:
+        return REFUSED
+    own = entry.words[0] in MINOR_EVENTS and len(entry.words[1]) > OWN_DIGITS
+    return MINOR if own else PLAIN
 
 
 @dataclass(slots=True)
@@ -67,7 +80,7 @@ class Story:
         self.count += 1
         row = self.row_of(entry)
         self.of.append(row)
-        self.kinds.append(PLAIN if entry.is_ok else REFUSED)
+        self.kinds.append(kind_of(entry))
         if entry.is_ok:
             act = getattr(self, "on_" + entry.words[0], None)
             if act:
@@ -142,9 +155,9 @@ class Story:
         """A task isn't there any more: it acts with nothing, and has no current credential."""
         for span in self.overrides.pop(name, []):
             span.end = self.count
-        span = self.current.pop(name, None)
-        if span:
-            span.end = self.count
+        current = self.current.pop(name, None)
+        if current:
+            current.end = self.count
         self.members.get(self.task(name).process, set()).discard(name)
 
     def end_process(self, process: str, but: str) -> None:
@@ -163,21 +176,25 @@ class Story:
         """A line to this entry."""
         self.links.append(Link(kind, start, row, self.count, to))
 
-    def on_init(self, row: Row, _: str, process: str, *_ids: str, told: list[str], **_e) -> None:
+    def on_init(
+        self, row: Row, _: str, process: str, *_ids: str, told: list[str], **_e: object
+    ) -> None:
         """A first task."""
         self.lives(row, process, told)
 
-    def on_spawn(self, row: Row, _: str, new: str, *, told: list[str], **_entry) -> None:
+    def on_spawn(self, row: Row, _: str, new: str, *, told: list[str], **_entry: object) -> None:
         """A thread more."""
         self.lives(self.task(new), row.process, told)
         self.linked("spawn", self.count, row, self.task(new))
 
-    def on_fork(self, row: Row, _: str, new: str, process: str, *, told: list[str], **_e) -> None:
+    def on_fork(
+        self, row: Row, _: str, new: str, process: str, *, told: list[str], **_e: object
+    ) -> None:
         """A child."""
         self.lives(self.task(new), process, told)
         self.linked("fork", self.count, row, self.task(new))
 
-    def on_exit(self, row: Row, task: str, **_entry) -> None:
+    def on_exit(self, row: Row, task: str, **_entry: object) -> None:
         """A task ends."""
         self.ends(task)
 
@@ -187,12 +204,12 @@ class Story:
         self.seal(self.becomes(row, told[0], told[1]), row, before, [])
         self.begun[str(entry.line)] = self.count, row
 
-    def on_raw(self, row: Row, _: str, *call: str, told: list[str], **_entry) -> None:
+    def on_raw(self, row: Row, _: str, *call: str, told: list[str], **_entry: object) -> None:
         """A call of one thread alone."""
         before = self.current.get(row.name)
         self.seal(self.becomes(row, told[0], told[1]), row, before, [])
 
-    def on_act(self, row: Row, line: str, *, told: list[str], **_entry) -> None:
+    def on_act(self, row: Row, line: str, *, told: list[str], **_entry: object) -> None:
         """A call: a thread follows."""
         before = self.current.get(row.name)
         self.seal(self.becomes(row, told[1], told[2]), row, before, [])
@@ -201,12 +218,13 @@ class Story:
             self.linked("follows", begun[0], begun[1], row)
 
     def seal(
-        self, span: Span, row: Row, before: Span | None, changes: list[list[str]], gain=()
-    ) -> None:
+        self, span: Span, row: Row, before: Span | None, changes: list[list[str]],
+        gain: Sequence[str] = (),
+    ) -> None:  # fmt: skip
         """A task's credential is replaced by another one: that is where sets may change."""
         self.seals.append(Seal(span, row, before.cred if before else "", changes, list(gain)))
 
-    def on_take(self, row: Row, label: str, *_: str, told: list[str], **_entry) -> None:
+    def on_take(self, row: Row, label: str, *_: str, told: list[str], **_entry: object) -> None:
         """A hold."""
         self.credential(told[0], told[1])
         self.home[label] = row
@@ -216,19 +234,23 @@ class Story:
     on_takereal = on_take
     on_takefile = on_take
 
-    def on_drop(self, row: Row, label: str, **_entry) -> None:
+    def on_drop(self, row: Row, label: str, **_entry: object) -> None:
         """The end of a hold."""
         span = self.holds.pop(label, None)
         if span:
             span.end = self.count
 
-    def on_ask(self, row: Row, label: str, asked: str, *_: str, told: list[str], **_entry) -> None:
+    def on_ask(
+        self, row: Row, label: str, asked: str, *_: str, told: list[str], **_entry: object
+    ) -> None:
         """A question: what the credential is, from here to its end and from its beginning."""
         held = self.holds.get(label)
         if held and asked in ("ids", "caps", "groups", "bits"):
             self.credentials[held.cred].told[asked] = told
 
-    def on_prepare(self, row: Row, label: str, _: str, base: str, told: list[str], **_e) -> None:
+    def on_prepare(
+        self, row: Row, label: str, _: str, base: str, told: list[str], **_e: object
+    ) -> None:
         """A copy, which keeps a slot."""
         held = self.holds.get(base)
         self.home[label] = row
@@ -237,13 +259,13 @@ class Story:
         row.spans.append(span)
         self.kept.append(span)
 
-    def on_change(self, row: Row, label: str, *change: str, **_entry) -> None:
+    def on_change(self, row: Row, label: str, *change: str, **_entry: object) -> None:
         """A change of the copy."""
         prepared = self.prepared.get(label)
         if prepared:
             prepared.changes.append(list(change))
 
-    def on_commit(self, row: Row, label: str, *, told: list[str], **_entry) -> None:
+    def on_commit(self, row: Row, label: str, *, told: list[str], **_entry: object) -> None:
         """The copy becomes a task's current credential. An execve ends the other threads."""
         prepared = self.end_prepared(label)
         before = self.current.get(row.name)
@@ -252,11 +274,13 @@ class Story:
         if len(told) > 2 and told[3] != "0":
             self.end_process(row.process, row.name)
 
-    def on_abort(self, row: Row, label: str, **_entry) -> None:
+    def on_abort(self, row: Row, label: str, **_entry: object) -> None:
         """The copy is given up."""
         self.end_prepared(label)
 
-    def on_override(self, row: Row, task: str, label: str, *, told: list[str], **_entry) -> None:
+    def on_override(
+        self, row: Row, task: str, label: str, *, told: list[str], **_entry: object
+    ) -> None:
         """The task acts with another credential; what was prepared for access(2) is one then."""
         if label not in self.holds:
             self.end_prepared(label)
@@ -265,36 +289,48 @@ class Story:
         self.overrides.setdefault(task, []).append(span)
         row.spans.append(span)
 
-    def on_revert(self, row: Row, task: str, **_entry) -> None:
+    def on_revert(self, row: Row, task: str, **_entry: object) -> None:
         """The end of the last override that stands."""
         standing = self.overrides.get(task)
         if standing:
             standing.pop().end = self.count
 
-    def on_open(self, row: Row, label: str, name: str, want: str, file: str, **_entry) -> None:
+    def on_open(
+        self, row: Row, label: str, name: str, want: str, file: str, **_entry: object
+    ) -> None:
         """An open file keeps its opener's credential."""
         held = self.holds.get(label)
         span = self.opened[file] = self.span(FILE, file, held.cred if held else "")
         self.files.spans.append(span)
         self.linked("opens", self.count, row, self.files)
 
-    def on_close(self, row: Row, file: str, **_entry) -> None:
+    def on_close(self, row: Row, file: str, **_entry: object) -> None:
         """The end of an open file."""
         span = self.opened.pop(file, None)
         if span:
             span.end = self.count
 
-    def on_signal(self, row: Row, _: str, __: str, other: str, *_rest: str, **_entry) -> None:
+    def on_signal(
+        self, row: Row, _: str, __: str, other: str, *_rest: str, **_entry: object
+    ) -> None:
         """A signal."""
         self.linked("signals", self.count, row, self.task(other))
 
-    def on_ptrace(self, row: Row, _: str, __: str, ___: str, other: str, *_rest, **_entry) -> None:
+    def on_ptrace(
+        self, row: Row, _: str, __: str, ___: str, other: str, *_rest: str, **_entry: object
+    ) -> None:
         """A look into another task."""
         self.linked("signals", self.count, row, self.task(other))
 
-    def on_sweep(self, row: Row, **_entry) -> None:
+    def on_sweep(self, row: Row, **_entry: object) -> None:
         """What was given up is dropped."""
         self.sweeps.append(self.count)
+
+    def learn(self, sets: dict[str, list[str]]) -> None:
+        """What was asked of credentials besides: their sets, where no entry tells them."""
+        for name, words in sets.items():
+            if name in self.credentials:
+                self.credentials[name].told.setdefault("caps", words)
 
     def rows(self) -> list[Row]:
         """The tasks, those of a process beside each other; then what belongs to none."""

@@ -44,14 +44,25 @@ const MINOR = /^(take|takereal|takefile|drop|prepare|commit|abort)$/;
 
 // A hold or a copy that a line takes for itself, and gives up again.
 function isMinor(model, place) {
-  if (model.kind(place) === "x") return false;
+  if (model.folded || model.kind(place) === "x") return false;
   const { event, words } = wordsOf(model.text(place));
   return MINOR.test(event) && labelOf(words[1]) === "";
 }
 
+// The entry whose call an entry is of: that of a commit is the change which the same line made.
+function calling(model, place) {
+  const { event, words } = wordsOf(model.text(place));
+  if (event !== "commit" || labelOf(words[1]) !== "") return place;
+  for (let at = place - 1; at >= model.first && model.line(at) === model.line(place); at--) {
+    const before = wordsOf(model.text(at));
+    if (before.event === "change" && before.words[1] === words[1]) return at;
+  }
+  return place;
+}
+
 // An entry in few words, for its place in the picture.
 function shortOf(model, place) {
-  const { event, words, answer } = wordsOf(named(model.text(place)));
+  const { event, words, answer } = wordsOf(named(model.text(calling(model, place))));
   const short = SHORT[event] || ((all) => [all[0], labelOf(all[1])]);
   let text = short(words).join(" ").trim();
   if (model.kind(place) === "x") return answer.join(" ") + ": " + text;
@@ -61,11 +72,11 @@ function shortOf(model, place) {
 }
 
 // The changes of several sets that are the same stand together: "Prm,Eff -all".
-function changeParts(change) {
+function changeParts(change, names = SETS) {
   const groups = new Map();
   const add = (set, sign, hex) => {
     const key = sign + (sign === "=" ? setOf(hex) : movedOf(hex));
-    if (hex !== "0" || sign === "=") groups.set(key, [...(groups.get(key) || []), SETS[set]]);
+    if (hex !== "0" || sign === "=") groups.set(key, [...(groups.get(key) || []), names[set]]);
   };
   for (const [set, came, went] of change.sets) {
     add(set, "+", came);
@@ -74,7 +85,8 @@ function changeParts(change) {
   for (const [set, sign, hex] of change.asked) add(set, sign === "-" ? MINUS : sign, hex);
   if (change.sets.length === 0) for (const hex of change.gain) add(0, "+", hex);
   const kinds = { "+": "came", [MINUS]: "went", "=": "" };
-  return [...groups].map(([key, sets]) => [kinds[key[0]], sets.join(",") + " " + key]);
+  const between = names === SETS ? "," : ", ";
+  return [...groups].map(([key, sets]) => [kinds[key[0]], sets.join(between) + " " + key]);
 }
 
 const GAINED = ["by the file's permitted set", "by the file's inheritable set", "as root"];
@@ -155,6 +167,7 @@ function entryLines(view, at) {
   if (model.kind(at) === "x") lines.push(["bad", "refused"]);
   const change = model.changes.get(at);
   if (change) lines.push(...changeLines(change));
+  for (const reason of model.why.get(at) || []) lines.push(["why", reason]);
   const band = bandAt(row, at);
   if (band) {
     const process = row.note ? " (" + row.note + ")" : "";

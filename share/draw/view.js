@@ -13,18 +13,21 @@ const MANY = 24;
 
 function newView(model) {
   const view = {
-    model, items: [], tasks: [], cap: -1, slots: true,
+    model, items: [], tasks: [], cap: -1, slots: false, holds: false,
     fold: model.rows.length > MANY || model.slots.length > MANY,
     marked: null, hits: null, hover: 0, picked: 0, w: 0, scrollX: 0, scrollY: 0,
   };
-  for (const id of ["canvas", "scroller", "spacer", "overview", "panel", "tip"]) {
+  for (const id of ["canvas", "scroller", "spacer", "overview", "panel", "list", "tip"]) {
     view[id] = document.getElementById(id);
   }
   view.ctx = view.canvas.getContext("2d");
-  view.firstShown = () => Math.max(model.first + Math.floor(view.scrollX / view.w), model.first);
+  view.firstShown = () => {
+    const column = Math.floor(view.scrollX / view.w);
+    return model.places[Math.min(Math.max(column, 0), model.places.length - 1)];
+  };
   view.lastShown = () => {
-    const reach = (view.scrollX + view.width - view.left) / view.w;
-    return Math.min(model.first + Math.ceil(reach), model.last);
+    const reach = Math.ceil((view.scrollX + view.width - view.left) / view.w);
+    return reach < model.places.length ? model.places[reach] : model.last;
   };
   return view;
 }
@@ -35,19 +38,30 @@ function readTheme(view) {
   const names = ["paper", "raised", "ink", "faint", "line", "bad", "came", "went", "pick",
     "saturation", "lightness"];
   for (const name of names) view.theme[name] = style.getPropertyValue("--" + name).trim();
+  view.hatch = pattern(view, (ctx) => {
+    for (const from of [-6, 0, 6]) {
+      ctx.moveTo(from, 6);
+      ctx.lineTo(from + 6, 0);
+    }
+    ctx.stroke();
+  });
+  view.dots = pattern(view, (ctx) => {
+    ctx.arc(3, 3, 1, 0, 7);
+    ctx.fill();
+  });
+  view.ctx.font = FONT;
+  view.charWidth = view.ctx.measureText("0000000000").width / 10;
+}
+
+// What is given up is hatched; what isn't told is dotted.
+function pattern(view, paintTile) {
   const tile = document.createElement("canvas");
   tile.width = tile.height = 6;
   const ctx = tile.getContext("2d");
-  ctx.strokeStyle = view.theme.faint;
+  ctx.strokeStyle = ctx.fillStyle = view.theme.faint;
   ctx.beginPath();
-  for (const from of [-6, 0, 6]) {
-    ctx.moveTo(from, 6);
-    ctx.lineTo(from + 6, 0);
-  }
-  ctx.stroke();
-  view.hatch = view.ctx.createPattern(tile, "repeat");
-  view.ctx.font = FONT;
-  view.charWidth = view.ctx.measureText("0000000000").width / 10;
+  paintTile(ctx);
+  return view.ctx.createPattern(tile, "repeat");
 }
 
 // The size of the canvas is that of the box; the spacer makes the box scroll.
@@ -56,7 +70,8 @@ function measure(view) {
   view.left = Math.min(window.innerWidth < 600 ? 58 : 92, Math.max(58, longestName(view)));
   view.width = view.scroller.clientWidth;
   if (view.w === 0) view.w = startWidth(view);
-  view.overview.hidden = view.model.count * view.w <= view.width - view.left + 1;
+  const wide = view.model.places.length * view.w;
+  view.overview.hidden = wide <= view.width - view.left + 1;
   lay(view);
   view.scroller.style.flexBasis = Math.max(view.height + 18, 140) + "px";
   view.width = view.scroller.clientWidth;
@@ -65,7 +80,7 @@ function measure(view) {
   view.canvas.height = Math.round(view.tall * view.ratio);
   view.canvas.style.width = view.width + "px";
   view.canvas.style.height = view.tall + "px";
-  view.spacer.style.width = Math.max(view.left + view.model.count * view.w, view.width) + "px";
+  view.spacer.style.width = Math.max(view.left + wide, view.width) + "px";
   view.spacer.style.height = Math.max(view.height, view.tall) + "px";
 }
 
@@ -77,8 +92,9 @@ function longestName(view) {
 
 // All entries, where each has room for some words; else so that some words fit.
 function startWidth(view) {
-  const all = (view.width - view.left) / view.model.count;
-  return Math.min(Math.max(all, LEGIBLE), 116, LONGEST / view.model.count);
+  const columns = view.model.places.length;
+  const all = (view.width - view.left) / columns;
+  return Math.min(Math.max(all, LEGIBLE), view.holds ? 116 : WIDEST, LONGEST / columns);
 }
 
 // Draws again, once however often it is asked for before the screen is.
@@ -106,9 +122,10 @@ function zoom(view, times, at) {
   const { model } = view;
   const middle = at === undefined ? (view.width - view.left) / 2 : Math.max(at - view.left, 0);
   const entry = (view.scrollX + middle) / view.w;
-  const all = (view.width - view.left) / model.count;
+  const columns = model.places.length;
+  const all = (view.width - view.left) / columns;
   const least = Math.max(Math.min(all, LEGIBLE), LEAST);
-  view.w = Math.min(Math.max(view.w * times, least), WIDEST, LONGEST / model.count);
+  view.w = Math.min(Math.max(view.w * times, least), WIDEST, LONGEST / columns);
   measure(view);
   view.scroller.scrollLeft = entry * view.w - middle;
   refresh(view, true);
@@ -119,7 +136,7 @@ function choose(view, at) {
   const { model, scroller } = view;
   if (at < model.first || at > model.last) return;
   view.picked = at;
-  const left = (at - model.first) * view.w;
+  const left = columnOf(model, at) * view.w;
   const room = view.width - view.left;
   if (left < scroller.scrollLeft || left + Math.min(view.w, room) > scroller.scrollLeft + room) {
     scroller.scrollLeft = left - room / 3;
@@ -148,10 +165,10 @@ function tell(element, lines) {
 // What stands at a place of the canvas: an entry, a span or a credential in its slot.
 function found(view, left, top) {
   if (left < view.left || top < AXIS) return null;
-  const at = view.model.first + Math.floor((view.scrollX + left - view.left) / view.w);
+  const at = view.model.places[Math.floor((view.scrollX + left - view.left) / view.w)];
   const y = top + view.scrollY;
   const item = view.items[lastUpTo(view.items, y, (one) => one.y)];
-  if (at > view.model.last || !item || y > item.y + item.height) return null;
+  if (at === undefined || !item || y > item.y + item.height) return null;
   if (item.kind === "head") return null;
   const holder = item.row || item.slot;
   const level = Math.floor((y - holder.below) / LEVEL);

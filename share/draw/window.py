@@ -6,12 +6,13 @@ is there with its own numbers.
 
 from __future__ import annotations
 
+from collections.abc import Callable
 from typing import Any
 
 from .slots import Life, lives
-from .spans import BAND, OPEN, Row, Span, levels
+from .spans import BAND, HOLD, OPEN, PREPARED, Row, Span, levels
 from .story import Story
-from .told import Change, changes
+from .credentials import Change, changes
 
 # The number that stands for none, where an index is meant.
 NONE = -1
@@ -55,7 +56,7 @@ class Window:
         used |= {id(link.to) for link in self.story.links if self.first <= link.end <= self.last}
         return [row for row in self.story.rows() if id(row) in used]
 
-    def levels_by(self, key, only) -> list[int]:
+    def levels_by(self, key: Callable[[Row, Span], Any], only: Callable[[Span], bool]) -> list[int]:
         """For each span its level among those with the same key; NONE where it has none."""
         groups: dict[Any, list[int]] = {}
         for place, (row, span) in enumerate(self.spans):
@@ -67,7 +68,7 @@ class Window:
                 found[place] = level
         return found
 
-    def span_lists(self) -> dict[str, list]:
+    def span_lists(self) -> dict[str, list[Any]]:
         """The spans, a list for each of their fields."""
         spans = [span for _, span in self.spans]
         slot_of = self.story.credentials
@@ -79,27 +80,31 @@ class Window:
             "end": [span.end for span in spans],
             "kept": [self.slot_places.get(span.slot, NONE) for span in spans],
             "row": [self.row_places[id(row)] for row, _ in self.spans],
-            "level": self.levels_by(lambda row, _: id(row), lambda span: span.kind != BAND),
+            # Holds and what is prepared may be folded, so they have levels of their own.
+            "level": self.levels_by(
+                lambda row, span: (id(row), span.kind in (HOLD, PREPARED)),
+                lambda span: span.kind != BAND,
+            ),
             "held": self.levels_by(
                 lambda _, span: slot_of[span.cred].slot, lambda span: span.cred != ""
             ),
         }
 
-    def life(self, life: Life) -> list:
+    def life(self, life: Life) -> list[Any]:
         """A credential: its number, its slot, its life there, and what was told of it."""
         cred = life.cred
         slot = self.slot_places[cred.slot]
         told = {name: " ".join(words) for name, words in cred.told.items()}
         return [cred.name, slot, life.start, life.given_up, life.swept, int(life.by_reuse), told]
 
-    def change(self, change: Change) -> list:
+    def change(self, change: Change) -> list[Any]:
         """What is seen to come and go at an entry."""
         sets = [[place, f"{came:x}", f"{went:x}"] for place, came, went in change.sets]
         asked = [[place, sign, f"{caps:x}"] for place, sign, caps in change.asked]
         gain = [f"{caps:x}" for caps in change.gain]
         return [change.place, self.row_places[id(change.row)], change.since, sets, asked, gain]
 
-    def links(self) -> list[list]:
+    def links(self) -> list[list[Any]]:
         """The lines between rows that end in the part."""
         places = self.row_places
         return [
@@ -108,8 +113,11 @@ class Window:
             if self.first <= link.end <= self.last and id(link.row) in places
         ]
 
-    def data(self, texts: list[str]) -> dict[str, Any]:
-        """All that the page's script reads; the texts are those of the part's entries."""
+    def data(
+        self, texts: list[str], reasons: dict[int, list[str]] | None = None
+    ) -> dict[str, Any]:
+        """All that the page's script reads; the texts are those of the part's entries, and the
+        reasons are by the numbers of entries."""
         story = self.story
         shown = slice(self.first - 1, self.last)
         seen = changes(story.seals, story.credentials)
@@ -126,5 +134,7 @@ class Window:
             "slots": self.slots,
             "links": self.links(),
             "changes": [self.change(c) for c in seen if self.first <= c.place <= self.last],
+            "why": [[place, told] for place, told in sorted((reasons or {}).items())
+                    if self.first <= place <= self.last],
             "sweeps": [place for place in story.sweeps if self.first <= place <= self.last],
         }

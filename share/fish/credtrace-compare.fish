@@ -5,3 +5,4 @@ complete -c credtrace-compare -l start -r -d 'The status where the log begins, o
 complete -c credtrace-compare -l task -x -d 'This process of the log and its children alone'
 complete -c credtrace-compare -l folder -r -d 'The folder where the log begins'
 complete -c credtrace-compare -l root -r -d 'The root where the log begins'
+complete -c credtrace-compare -l proc -r -d 'A folder like /proc, of processes that aren\'t of the log'

@@ -4,7 +4,7 @@ from __future__ import annotations
 
 import random
 
-from .script import CAPABILITIES
+from capabilities import CAPABILITIES
 
 ROOTS = {1: 100_000, 2: 200_000}
 IDS = (0, 0, 1000, 2000, 5, 100_000, 200_000)

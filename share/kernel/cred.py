@@ -7,6 +7,8 @@ what a kernel must answer to any script.
 
 from __future__ import annotations
 
+from collections.abc import Callable
+
 from . import rows
 from .rules import ALL
 from .script import NONE
@@ -30,7 +32,9 @@ class Cred:
         "ambient", "bits", "no_new_privs", "space", "root", "mapped",
     )  # fmt: skip
 
-    def __init__(self, user: int, group: int, space: int, root: int, mapped) -> None:
+    def __init__(
+        self, user: int, group: int, space: int, root: int, mapped: Callable[[int], bool]
+    ) -> None:
         self.users = [user] * 4
         self.group_ids = [group] * 4
         self.groups: list[int] = []

@@ -4,7 +4,9 @@ from __future__ import annotations
 
 import re
 
-from .script import CAPABILITIES, CHANGES, ID_CALLS, QUERIES
+from capabilities import CAPABILITIES
+
+from .script import CHANGES, ID_CALLS, QUERIES
 
 NUM = r"(?:0|[1-9]\d{0,9})"
 WORDS = {

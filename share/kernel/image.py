@@ -8,7 +8,7 @@ import os
 import shutil
 import subprocess
 
-from .apart import Fault, made_apart
+from .isolation import Fault, made_apart
 from .script import File
 
 SIZE = 8 << 20
@@ -53,7 +53,8 @@ def made(files: list[File], program: bytes, folder: str) -> bytes:
     with open(script, "w", encoding="ascii") as target:
         target.write("\n".join([*lines, ""]))
     plain = ["-q", "-F", "-I", "256", "-b", "1024", "-O", "^has_journal", image]
-    for words in ([tool("mke2fs"), *plain], [tool("debugfs"), "-w", "-f", script, image]):
+    make, fill = (tool(name) or name for name in ("mke2fs", "debugfs"))
+    for words in ([make, *plain], [fill, "-w", "-f", script, image]):
         nothing = subprocess.DEVNULL
         done = subprocess.run(words, stdout=nothing, stderr=nothing, check=False)
         if done.returncode:

@@ -7,14 +7,16 @@ import re
 from dataclasses import replace
 from functools import lru_cache
 
-from .apart import Fault
+from .isolation import Fault
 from .image import can_make, image_of
-from .process import SECONDS, Built, Driver
-from .script import Script, parse
+from .process import SECONDS, Built, Driver, shown
+from .script import File, Script, parse
 from .setup import Place, in_image, whole
 
 FULL = "1ffffffffff"
 DONE = ". done 0"
+# The first id of each extent, and how many there are.
+Extents = tuple[tuple[int, int], ...]
 LATE = "it took longer than"
 # A script that asks what a first task is given, and others that ask for more.
 FIRST = "init t1 p1 0 0 n0\nt1 caps\nt1 bits\nt1 ids\n"
@@ -31,21 +33,43 @@ class Lost(Exception):
         self.answers = answers
 
 
+# What is asked twice of a task, and by what, as the driver says which differ.
+ASKED_TWICE = {
+    "ids": ("getresuid(2), getresgid(2) or setfsuid(2)", "Uid and Gid"),
+    "CapPrm:": ("capget(2)", "CapPrm"),
+    "CapInh:": ("capget(2)", "CapInh"),
+    "CapEff:": ("capget(2)", "CapEff"),
+    "CapBnd:": ("prctl(2), PR_CAPBSET_READ", "CapBnd"),
+    "CapAmb:": ("prctl(2), PR_CAP_AMBIENT_IS_SET", "CapAmb"),
+    "groups": ("getgroups(2)", "Groups"),
+    "bits": ("prctl(2), PR_GET_KEEPCAPS or PR_GET_NO_NEW_PRIVS", "NoNewPrivs"),
+}
+
+
 def failure(told: str) -> str:
     """What couldn't be made before the calls, as the driver told it."""
     *what, number = told.split()
     return f"{' '.join(what)}: {os.strerror(int(number))}"
 
 
+def disagreement(answer: str) -> str:
+    """An answer, or which two that the driver compares aren't the same."""
+    word, _, what = answer.partition(" ")
+    if word != "disagree" or what not in ASKED_TWICE:
+        return answer or "no answer"
+    call, name = ASKED_TWICE[what]
+    return f"{call} is refused, or says otherwise than /proc/thread-self/status ({name})"
+
+
 def kernel_of(first: list[str]) -> str:
     """The kernel's name and release, from the driver's first lines."""
     said = first[first.index("/proc/version") + 1 :] if "/proc/version" in first else []
     if not said or not first[-1].startswith(". ready"):
-        raise Fault(f"the driver said {' '.join(first)[:200]}")
+        raise Fault(f"the driver wasn't run: what came in its place begins {shown(first[0])}")
     return " ".join(said[0].split()[:3])
 
 
-def extents(lines: list[str], name: str) -> tuple[tuple[int, int], ...]:
+def extents(lines: list[str], name: str) -> Extents:
     """What a map of /proc, which the driver told, maps."""
     start = lines.index(name) + 1 if name in lines else len(lines)
     found = []
@@ -57,7 +81,7 @@ def extents(lines: list[str], name: str) -> tuple[tuple[int, int], ...]:
     return tuple(found)
 
 
-def common(one: tuple[tuple[int, int], ...], other: tuple[tuple[int, int], ...]) -> tuple:
+def common(one: Extents, other: Extents) -> Extents:
     """What two lists of extents both have."""
     found = []
     for a, m in one:
@@ -82,6 +106,14 @@ def narrowed(place: Place, ids: str) -> Place:
     return replace(place, extents=found)
 
 
+def lacking(answer: str) -> str:
+    """Which sets root has, or which two that tell them aren't the same."""
+    words = answer.split()
+    if words[:1] != ["ok"] or len(words) != 6:
+        return disagreement(answer)
+    return f"capget(2) and /proc say it is permitted {words[1]}, and bounded by {words[4]}"
+
+
 class Machine:
     """A driver, and what it can do here."""
 
@@ -98,7 +130,7 @@ class Machine:
             self.place = narrowed(self.place, ids)
 
     @lru_cache(maxsize=64)
-    def image(self, files: tuple) -> bytes:
+    def image(self, files: tuple[File, ...]) -> bytes:
         """The image of these files."""
         return image_of(list(files), self.built.program)
 
@@ -129,8 +161,10 @@ class Machine:
         if word == "late":
             return f"{LATE} {self.seconds} seconds"
         if word == "refused":
-            return f"no process could be made ({os.strerror(int(number))})"
-        return f"the driver's process ended with status {number}"
+            return f"clone(2), CLONE_NEWPID and CLONE_NEWNS: {os.strerror(int(number))}"
+        status = os.waitstatus_to_exitcode(int(number))
+        how = f"by signal {-status}" if status < 0 else f"with status {status}"
+        return f"the driver's process ended {how}"
 
     def try_script(self, text: str, place: Place) -> dict[int, str]:
         """The answers of a small script in this place; nothing where it can't be run."""
@@ -172,11 +206,12 @@ class Machine:
             raise Fault(f"no script can be run here: {self.why}")
         caps = found.get(2, "").split()
         if caps[:1] != ["ok"] or len(caps) != 6 or (caps[1], caps[4]) != (FULL, FULL):
-            raise Fault(f"root lacks capabilities here (capget: {' '.join(caps)})")
+            raise Fault(f"root lacks capabilities here: {lacking(found.get(2, ''))}")
         if found.get(3) != "ok 0 0":
-            raise Fault("root has securebits or no_new_privs set here")
+            told = disagreement(found.get(3, ""))
+            raise Fault(f"root has securebits or no_new_privs set here: {told}")
         if found.get(4) != "ok 0 0 0 0 0 0 0 0":
-            raise Fault(f"root isn't user 0 here: {found.get(4)}")
+            raise Fault(f"root isn't user 0 here: {disagreement(found.get(4, ''))}")
 
     def close(self) -> None:
         """Ends the driver."""

@@ -8,12 +8,13 @@ from __future__ import annotations
 
 from collections.abc import Callable
 from dataclasses import dataclass, field
+from typing import TypeVar
 
 from . import cred as change
 from . import files
 from .cred import Cred, Refused
 from .lines import id_of
-from .rows import DENIED_GROUPS, EXPECTED, MANUAL
+from .rows import CAPABILITY, DENIED_GROUPS, EXPECTED, MANUAL
 from .rules import chain
 from .script import CHANGES, ID_CALLS, QUERIES, Line, Script, capability
 from .setup import Place, id_map
@@ -22,6 +23,7 @@ KILL = 5
 TASKS, HOLDS = 64, 512
 Words = tuple[str, ...]
 Rows = frozenset[str]
+Made = TypeVar("Made")
 
 
 @dataclass
@@ -68,27 +70,26 @@ class Model:
 
         return has
 
-    def rule(self, make: Callable[[Rows], object]) -> object:
+    def rule(self, make: Callable[[Rows], Made]) -> Made:
         """What a rule makes by the rows that hold. Where it is another thing without one of them,
         that row is named.
         """
-        found, error = outcome(make, self.on)
-        if self.on and shown(found, error) != shown(*outcome(make, MANUAL)):
+        found = outcome(make, self.on)
+        if self.on and shown(found) != shown(outcome(make, MANUAL)):
             for row in self.on:
-                if shown(found, error) != shown(*outcome(make, self.on - {row})):
+                if shown(found) != shown(outcome(make, self.on - {row})):
                     self.named.add(row)
-        if error is not None:
-            raise error
+        if isinstance(found, Refused):
+            raise found
         return found
 
     def step(self, task: Task, words: Words) -> None:
         """A task's own step of a call that sets ids."""
         ids = [id_of(word) for word in words[1:]]
         if words[0] == "setgroups":
-            made = self.rule(lambda on: change.set_groups(task.cred, ids, on))
+            task.cred = self.rule(lambda on: change.set_groups(task.cred, ids, on))
         else:
-            made = self.rule(lambda on: change.set_ids(task.cred, words[0], ids, on))
-        task.cred = made  # type: ignore[assignment]
+            task.cred = self.rule(lambda on: change.set_ids(task.cred, words[0], ids, on))
 
     def busy(self, process: str, caller: str | None = None) -> str | None:
         """The answer where a call is open in this process: for its caller, or for everybody."""
@@ -146,8 +147,7 @@ class Model:
         cred = task.cred
         if form in ("setfsuid", "setfsgid"):
             user, new = form == "setfsuid", id_of(rest[0])
-            made = self.rule(lambda on: change.set_fs(cred, user, new, on))
-            task.cred, old = made  # type: ignore[misc]
+            task.cred, old = self.rule(lambda on: change.set_fs(cred, user, new, on))
             return f"ok was {old}"
         if form == "exec":
             return self.executes(name, task, rest[0])
@@ -158,7 +158,7 @@ class Model:
             task.cred = change.ambient(cred, form, 0)
             return "ok"
         number = capability(rest[0])
-        make: dict[str, Callable[[Rows], object]] = {
+        make: dict[str, Callable[[Rows], Cred]] = {
             "capdrop": lambda on: change.drop(cred, number),
             "ambraise": lambda on: change.ambient(cred, form, number),
             "amblower": lambda on: change.ambient(cred, form, number),
@@ -166,13 +166,13 @@ class Model:
             "keepcaps": lambda on: change.keep_caps(cred, number),
             "nonewprivs": lambda on: change.no_new_privs(cred, number),
         }
-        task.cred = self.rule(make[form])  # type: ignore[assignment]
+        task.cred = self.rule(make[form])
         return "ok"
 
     def executes(self, name: str, task: Task, file: str) -> str:
         """execve(2): the other threads end, and with them the call that they follow."""
         old, roots = task.cred, chain(self.script, task.cred.space)
-        made = self.rule(lambda on: files.execute(old, self.script.files[file], roots, on))
+        new = self.rule(lambda on: files.execute(old, self.script.files[file], roots, on))
         others = [
             it for it, its in self.tasks.items() if its.process == task.process and it != name
         ]
@@ -180,7 +180,7 @@ class Model:
             del self.tasks[other]
         for line in [it for it, its in self.casts.items() if its.process == task.process]:
             del self.casts[line]
-        new = task.cred = made  # type: ignore[assignment]
+        task.cred = new
         task.waits = 0
         before = f"{old.permitted:x} {old.bounding:x} {int(old.no_new_privs)} {old.bits & 1}"
         return f"ok {len(others)} {before} {new.permitted:x} {new.users[0]} {new.users[1]}"
@@ -250,7 +250,7 @@ class Model:
         if task.process == target.process or {mine[0], mine[1]} & {its[0], its[2]}:
             return "ok"
         one, two = task.cred, target.cred
-        may = self.rule(lambda on: self.may_kill(one, two, on & {files.rows.CAPABILITY}))
+        may = self.rule(lambda on: self.may_kill(one, two, on & {CAPABILITY}))
         return "ok" if may else "eperm"
 
     def starts(self, name: str, form: str, child: str, process: str) -> str:
@@ -338,18 +338,18 @@ class Model:
             return str(why)
 
 
-def outcome(make: Callable[[Rows], object], on: Rows) -> tuple[object, Refused | None]:
+def outcome(make: Callable[[Rows], Made], on: Rows) -> Made | Refused:
     """What a rule makes, or how it refuses."""
     try:
-        return make(on), None
+        return make(on)
     except Refused as why:
-        return None, why
+        return why
 
 
-def shown(found: object, error: Refused | None) -> object:
+def shown(found: object) -> object:
     """What can be seen of an outcome."""
-    if error is not None:
-        return str(error)
+    if isinstance(found, Refused):
+        return str(found)
     parts = found if isinstance(found, tuple) else (found,)
     return [
         [getattr(it, name) for name in Cred.__slots__[:-1]] if isinstance(it, Cred) else it

@@ -7,8 +7,8 @@ import signal
 import sys
 from pathlib import Path
 
-from .able import why_not
-from .apart import Fault
+from .runnable import why_not
+from .isolation import Fault
 from .grammar import is_good
 from .machine import Lost, Machine
 from .numbers import Full

@@ -10,7 +10,7 @@ import subprocess
 import tempfile
 from pathlib import Path
 
-from .apart import Fault, die_with_parent, made_apart
+from .isolation import Fault, die_with_parent, made_apart
 
 SOURCES = Path(__file__).resolve().parent / "driver"
 FLAGS = (
@@ -18,6 +18,8 @@ FLAGS = (
 ).split()
 # How long one script may take, in seconds, where nothing else is said.
 SECONDS = 60
+
+
 def compiler() -> str:
     """The C compiler."""
     found = os.environ.get("CC") or shutil.which("cc") or shutil.which("gcc") or ""
@@ -88,12 +90,19 @@ class Built:
             shutil.rmtree(self.folder, ignore_errors=True)
 
 
+def shown(said: str) -> str:
+    """What was said, where it may be any bytes: a terminal isn't given them as they are."""
+    found = "".join(c if " " <= c <= "~" else "?" for c in said[:80])
+    return found + ("..." if len(said) > 80 else "")
+
+
 def ended(status: int, said: str) -> str:
     """Why the driver ended before it was to."""
     refused = re.fullmatch(r"cannot unshare (\d+)", said)
     if refused:
-        return f"a mount or user namespace isn't allowed here: {os.strerror(int(refused[1]))}"
-    return f"the driver ended with status {status}" + (f" and said: {said[:300]}" if said else "")
+        call = f"unshare(2), CLONE_NEWNS, and with CLONE_NEWUSER: {os.strerror(int(refused[1]))}"
+        return f"{call}: a mount or user namespace isn't allowed here"
+    return f"the driver ended with status {status}" + (f" and said: {shown(said)}" if said else "")
 
 
 class Driver:

@@ -105,7 +105,7 @@ def numbers(form: re.Pattern[str], script: Script) -> set[int]:
 
 def called(script: Script) -> set[int]:
     """The ids that calls name."""
-    found = set()
+    found: set[int] = set()
     for line in script.lines:
         words = line.words[2:] if line.words[0] == "begin" else line.words[1:]
         if words[:1] and (words[0] in ID_CALLS or words[0] in ("setfsuid", "setfsgid")):

@@ -102,7 +102,7 @@ def executed(script: Script) -> set[str]:
 def file_line(file: File, is_executed: bool) -> str:
     """The line that makes a file."""
     has_attribute = file.attribute is not None and not file.is_dir
-    attribute = file.attribute.hex() if has_attribute else "-"
+    attribute = (file.attribute or b"").hex() if has_attribute else "-"
     kind = "d" if file.is_dir else "r"
     ids = f"{file.owner} {file.group} {file.mode}"
     return f"F {path(file, False)} {kind} {ids} {int(is_executed)} {attribute}"

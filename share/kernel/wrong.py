@@ -8,15 +8,18 @@ from __future__ import annotations
 
 from collections.abc import Callable
 from dataclasses import replace
+from typing import Any
 
 from . import cred, files
 from .cred import Cred, Refused
 from .model import Model, expected
 from .rules import ALL
-from .script import NONE, Script
+from .script import NONE, File, Script
 from .setup import Place
 
-Make = Callable[[Callable], Callable]
+# A rule, whatever it takes: wrong ones are made of rules of many forms.
+Rule = Callable[..., Any]
+Make = Callable[[Rule], Rule]
 # Each wrong kernel: what it does, and the function that it has otherwise: a module or a class, a
 # name, and what makes it of the right one.
 WRONG: dict[str, tuple[object, str, Make]] = {}
@@ -32,12 +35,12 @@ def wrong(what: str, place: object, name: str) -> Callable[[Make], Make]:
     return add
 
 
-def after(change: Callable) -> Make:
+def after(change: Rule) -> Make:
     """A wrong kernel that changes what the right one makes of a credential."""
     return lambda right: lambda old, *rest: change(old, right(old, *rest).copy(), *rest)
 
 
-def at_change(what: str, name: str, change: Callable, place: object = cred) -> None:
+def at_change(what: str, name: str, change: Rule, place: object = cred) -> None:
     """Adds one that changes what a rule makes."""
     wrong(what, place, name)(after(change))
 
@@ -45,7 +48,7 @@ def at_change(what: str, name: str, change: Callable, place: object = cred) -> N
 def with_bits(bits: int) -> Make:
     """A wrong kernel that doesn't see these securebits in a rule."""
 
-    def make(right: Callable) -> Callable:
+    def make(right: Rule) -> Rule:
         def rule(old: Cred, *rest: object) -> object:
             blind = old.copy()
             blind.bits &= ~bits
@@ -62,7 +65,7 @@ def with_bits(bits: int) -> Make:
     return make
 
 
-def with_file(**fields: object) -> Make:
+def with_file(**fields: Any) -> Make:
     """A wrong kernel that sees a file otherwise at execve."""
     return lambda right: lambda old, file, *rest: right(old, replace(file, **fields), *rest)
 
@@ -76,49 +79,49 @@ def fields(new: Cred, **its: object) -> Cred:
 
 # The calls that set ids: as gVisor's setreuid(2) was, and others of the kind.
 @wrong("setreuid doesn't set the saved id", cred, "chosen")
-def _(right):
+def _(right: Rule) -> Rule:
     return lambda name, ids, *rest: (
         [*right(name, ids, *rest)[:2], ids[2]] if name == "setre" else right(name, ids, *rest)
     )
 
 
 @wrong("setreuid always sets the saved id", cred, "chosen")
-def _(right):
-    def rule(name, ids, *rest):
-        found = right(name, ids, *rest)
+def _(right: Rule) -> Rule:
+    def rule(name: str, ids: list[int], *rest: Any) -> list[int]:
+        found: list[int] = right(name, ids, *rest)
         return [found[0], found[1], found[1]] if name == "setre" else found
 
     return rule
 
 
 @wrong("setresuid sets the saved id where it is to be kept", cred, "chosen")
-def _(right):
-    def rule(name, ids, new, *rest):
-        found = right(name, ids, new, *rest)
+def _(right: Rule) -> Rule:
+    def rule(name: str, ids: list[int], new: list[int], *rest: Any) -> list[int]:
+        found: list[int] = right(name, ids, new, *rest)
         return [*found[:2], found[1]] if name == "setres" and new[2] == NONE else found
 
     return rule
 
 
 @wrong("setuid of a privileged process sets the effective id alone", cred, "chosen")
-def _(right):
+def _(right: Rule) -> Rule:
     return lambda name, ids, new, privileged: right(
         name, ids, new, privileged and (name != "set" or new[0] not in (ids[0], ids[2]))
     )
 
 
 @wrong("seteuid sets the saved id", cred, "chosen")
-def _(right):
-    def rule(name, *rest):
-        found = right(name, *rest)
+def _(right: Rule) -> Rule:
+    def rule(name: str, *rest: Any) -> list[int]:
+        found: list[int] = right(name, *rest)
         return [found[0], found[1], found[1]] if name == "sete" else found
 
     return rule
 
 
 @wrong("-1 is EPERM for setuid, not EINVAL", cred, "chosen")
-def _(right):
-    def rule(name, ids, new, privileged):
+def _(right: Rule) -> Rule:
+    def rule(name: str, ids: list[int], new: list[int], privileged: bool) -> Any:
         if name == "set" and new[0] == NONE and not privileged:
             raise Refused("eperm")
         return right(name, ids, new, privileged)
@@ -140,8 +143,8 @@ at_change(
 
 # The sets after a change of ids.
 @wrong("the ambient set survives leaving root", cred, "fixed")
-def _(right):
-    def rule(it, old):
+def _(right: Rule) -> Rule:
+    def rule(it: Cred, old: list[int]) -> None:
         kept = it.ambient
         right(it, old)
         it.ambient = kept & it.permitted
@@ -150,8 +153,8 @@ def _(right):
 
 
 @wrong("leaving root for a while keeps the effective set", cred, "fixed")
-def _(right):
-    def rule(it, old):
+def _(right: Rule) -> Rule:
+    def rule(it: Cred, old: list[int]) -> None:
         kept = it.effective
         right(it, old)
         if it.root in it.users[:3] and it.users[1] != it.root:
@@ -161,8 +164,8 @@ def _(right):
 
 
 @wrong("coming back to root doesn't make the permitted set effective", cred, "fixed")
-def _(right):
-    def rule(it, old):
+def _(right: Rule) -> Rule:
+    def rule(it: Cred, old: list[int]) -> None:
         kept = it.effective
         right(it, old)
         it.effective = kept if it.users[1] == it.root != old[1] else it.effective
@@ -175,8 +178,8 @@ wrong("NO_SETUID_FIXUP is not looked at", cred, "fixed")(with_bits(cred.NO_FIXUP
 
 
 @wrong("setfsuid takes no capability on files", cred, "set_fs")
-def _(right):
-    def rule(old, *rest):
+def _(right: Rule) -> Rule:
+    def rule(old: Cred, *rest: Any) -> Any:
         new, was = right(old, *rest)
         return (fields(new.copy(), effective=old.effective), was)
 
@@ -185,8 +188,8 @@ def _(right):
 
 # Sets and securebits.
 @wrong("capset makes inheritable what left the bounding set", cred, "capset")
-def _(right):
-    def rule(old, *rest):
+def _(right: Rule) -> Rule:
+    def rule(old: Cred, *rest: Any) -> Any:
         new = right(fields(old.copy(), bounding=ALL), *rest)
         return fields(new, bounding=old.bounding)
 
@@ -202,8 +205,8 @@ at_change("a drop from the bounding set reaches the inheritable set", "drop", la
 
 
 @wrong("a drop from the bounding set needs no CAP_SETPCAP", cred, "drop")
-def _(right):
-    def rule(old, number):
+def _(right: Rule) -> Rule:
+    def rule(old: Cred, number: int) -> Any:
         new = right(fields(old.copy(), effective=ALL), number)
         return fields(new, effective=old.effective)
 
@@ -215,7 +218,7 @@ wrong("the lock of KEEP_CAPS is not looked at", cred, "keep_caps")(with_bits(cre
 
 
 @wrong("a locked securebit may change", cred, "securebits")
-def _(right):
+def _(right: Rule) -> Rule:
     return lambda old, new, on: fields(
         right(fields(old.copy(), bits=old.bits & ~cred.LOCKS), new, on), bits=new
     )
@@ -241,28 +244,28 @@ wrong("nosuid is not looked at", files, "execute")(with_file(nosuid=False))
 
 
 @wrong("the set-group-ID bit counts without the group's execute bit", files, "by_set_id")
-def _(right):
+def _(right: Rule) -> Rule:
     return lambda old, file, on: right(old, replace(file, mode=file.mode | 0o10), on)
 
 
 @wrong("no_new_privs leaves set-id bits in force", files, "by_set_id")
-def _(right):
+def _(right: Rule) -> Rule:
     return lambda old, file, on: right(fields(old.copy(), no_new_privs=False), file, on)
 
 
 @wrong("the bounding set doesn't limit what a file permits", files, "permitted_by")
-def _(right):
+def _(right: Rule) -> Rule:
     return lambda old, *rest: right(fields(old.copy(), bounding=ALL), *rest)
 
 
 @wrong("an attribute of one namespace counts in all", files, "attribute_of")
-def _(right):
+def _(right: Rule) -> Rule:
     return lambda old, file, roots, on: right(old, file, [*roots, 100_000, 200_000], on)
 
 
 @wrong("a capability-dumb file is executed with less than it permits", files, "execute")
-def _(right):
-    def rule(old, file, roots, on):
+def _(right: Rule) -> Rule:
+    def rule(old: Cred, file: File, roots: list[int], on: frozenset[str]) -> Any:
         try:
             return right(old, file, roots, on)
         except Refused as why:
@@ -279,13 +282,13 @@ wrong("NOROOT is not looked at", files, "is_root")(
 
 
 @wrong("a set-user-ID-root file with an attribute gives all capabilities", files, "is_root")
-def _(right):
+def _(right: Rule) -> Rule:
     return lambda old, user, attribute: right(old, user, None)
 
 
 # Checks and signals.
 @wrong("access(2) decides by the effective ids", files, "by_real_ids")
-def _(right):
+def _(right: Rule) -> Rule:
     return lambda old: fields(
         right(old),
         users=[*old.users[:3], old.users[1]],
@@ -294,17 +297,17 @@ def _(right):
 
 
 @wrong("access(2) by root looks at the effective set", files, "by_real_ids")
-def _(right):
+def _(right: Rule) -> Rule:
     return lambda old: fields(right(old), effective=right(old).effective & old.effective)
 
 
 @wrong("supplementary groups don't count in a check", files, "may")
-def _(right):
+def _(right: Rule) -> Rule:
     return lambda old, *rest: right(fields(old.copy(), groups=[]), *rest)
 
 
 @wrong("the owner's class doesn't decide alone", files, "may")
-def _(right):
+def _(right: Rule) -> Rule:
     return lambda old, file, want, on: (
         right(old, file, want, on)
         or right(fields(old.copy(), users=[*old.users[:3], NONE]), file, want, on)
@@ -312,18 +315,18 @@ def _(right):
 
 
 @wrong("CAP_DAC_OVERRIDE executes without an execute bit", files, "may")
-def _(right):
+def _(right: Rule) -> Rule:
     return lambda old, file, want, on: right(old, file, want, on) or old.has(1)
 
 
 @wrong("CAP_KILL is not looked at", Model, "may_kill")
-def _(right):
+def _(right: Rule) -> Rule:
     return lambda self, *rest: False
 
 
 @wrong("a signal is allowed by the target's effective id", Model, "signals")
-def _(right):
-    def rule(self, name, other):
+def _(right: Rule) -> Rule:
+    def rule(self: Model, name: str, other: str) -> Any:
         mine, its = (self.tasks[it].cred.users if it in self.tasks else [] for it in (name, other))
         return "ok" if its and its[1] in mine[:2] else right(self, name, other)
 
@@ -332,8 +335,8 @@ def _(right):
 
 # Threads.
 @wrong("an id call of one thread is every thread's credential", Model, "follow")
-def _(right):
-    def rule(self, line):
+def _(right: Rule) -> Rule:
+    def rule(self: Model, line: int) -> Any:
         cast = self.casts.get(line)
         answer = right(self, line)
         if cast is not None and cast.caller in self.tasks:
@@ -364,4 +367,3 @@ class WrongKernel:
             return expected(script, self.place)[0]
         finally:
             setattr(self.owner, self.name, self.right)
-

@@ -5,11 +5,13 @@
     reason       a sentence with its source, and what isn't one
     script       a script's lines, files and namespaces
     program      the program, asked for a report, an audit, an attribute
-    books        what the books of a journal have
+    records      what a journal records: tasks, labels, calls of all threads
     journal      what stands after each entry of a report
-    stood        what stood in the way: tasks, labels, calls that are open, limits
-    asking       the values of credentials, asked in copies of the script
-    ids, adjust, execve, access    the rules, as sentences with their conditions
+    file_events, ptrace_events    the entries on files and on looks into tasks
+    obstacles    what stood in the way: tasks, labels, calls that are open, limits
+    values       the values of credentials, asked in copies of the script
+    ids, adjust, execve, access, file_rules, ptrace_rules    the rules, as sentences with their
+                 conditions
     explain      from an entry to its sentences
     tell         what is told of a line
     life         the life of a capability in a task

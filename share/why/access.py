@@ -2,6 +2,8 @@
 
 from __future__ import annotations
 
+from collections.abc import Sequence
+
 from . import sources
 from .names import EFFECTIVE, NUMBERS, listed
 from .reason import Fault, Reason
@@ -23,7 +25,7 @@ def asked_for(want: str) -> int:
     return sum(VALUES[letter] for letter in want)
 
 
-def deciding(file: File, ids, groups) -> tuple[str, int, str]:
+def deciding(file: File, ids: Sequence[int], groups: Sequence[int]) -> tuple[str, int, str]:
     """The class that decides, its digit, and why it is that one."""
     user, group = ids[3], ids[7]
     if user == file.owner:
@@ -39,7 +41,7 @@ def deciding(file: File, ids, groups) -> tuple[str, int, str]:
     return "others'", file.mode & 7, f"{other}, and {among}supplementary group"
 
 
-def passing(file: File, want: str, caps) -> list[str]:
+def passing(file: File, want: str, caps: Sequence[int]) -> list[str]:
     """The capabilities that pass the whole request."""
     found = []
     directory = file.kind == "dir"
@@ -50,13 +52,15 @@ def passing(file: File, want: str, caps) -> list[str]:
     return found
 
 
-def may(file: File, want: str, ids, caps, groups) -> bool:
+def may(
+    file: File, want: str, ids: Sequence[int], caps: Sequence[int], groups: Sequence[int]
+) -> bool:
     """Whether the check passes."""
     asked = asked_for(want)
     return asked & deciding(file, ids, groups)[1] == asked or bool(passing(file, want, caps))
 
 
-def capabilities(file: File, want: str, caps) -> str:
+def capabilities(file: File, want: str, caps: Sequence[int]) -> str:
     """Why no capability passes the request."""
     override, read = caps[EFFECTIVE] >> OVERRIDE & 1, caps[EFFECTIVE] >> READ_SEARCH & 1
     if not override and not read:
@@ -71,7 +75,14 @@ def capabilities(file: File, want: str, caps) -> str:
     return f"{first}; {second}"
 
 
-def refusal(file: File, want: str, ids, caps, groups, source: str = "") -> Reason:
+def refusal(
+    file: File,
+    want: str,
+    ids: Sequence[int],
+    caps: Sequence[int],
+    groups: Sequence[int],
+    source: str = "",
+) -> Reason:
     """Why a check is refused."""
     which, digit, why = deciding(file, ids, groups)
     asked = asked_for(want)
@@ -86,7 +97,9 @@ def refusal(file: File, want: str, ids, caps, groups, source: str = "") -> Reaso
         f"{sources.PERMISSIONS}; {sources.BYPASSING}"))  # fmt: skip
 
 
-def allowed(file: File, want: str, ids, caps, groups) -> Reason:
+def allowed(
+    file: File, want: str, ids: Sequence[int], caps: Sequence[int], groups: Sequence[int]
+) -> Reason:
     """Why a check passes."""
     which, digit, why = deciding(file, ids, groups)
     asked = asked_for(want)
@@ -100,7 +113,7 @@ def allowed(file: File, want: str, ids, caps, groups) -> Reason:
     return Reason(f"{text}{letters(digit)}, don't permit it", sources.BYPASSING)
 
 
-def signal_refused(ids, caps, target) -> Reason:
+def signal_refused(ids: Sequence[int], caps: Sequence[int], target: Sequence[int]) -> Reason:
     """Why a signal is refused."""
     real, effective = ids[0], ids[1]
     victims = (target[0], target[2])
@@ -114,7 +127,9 @@ def signal_refused(ids, caps, target) -> Reason:
     return Reason(text, sources.KILL)
 
 
-def signal_allowed(ids, caps, target, within: bool) -> Reason:
+def signal_allowed(
+    ids: Sequence[int], caps: Sequence[int], target: Sequence[int], within: bool
+) -> Reason:
     """Why a signal is allowed."""
     if within:
         return Reason("allowed: both are threads of one process", sources.KILL)

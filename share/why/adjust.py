@@ -2,6 +2,8 @@
 
 from __future__ import annotations
 
+from collections.abc import Callable, Sequence
+
 from . import sources
 from .ids import same
 from .names import (
@@ -18,15 +20,16 @@ NEEDS = {
 }  # fmt: skip
 
 
-def refusal(words: list[str], told: str, caps, bits) -> Reason:
-    """Why such a call is refused. What the rule doesn't ask for, `caps` or `bits`, is None."""
+def refusal(words: list[str], told: str, caps: Sequence[int], bits: Sequence[int]) -> Reason:
+    """Why such a call is refused. What the rule doesn't ask for, `caps` or `bits`, is
+    empty."""
     found = REFUSALS[words[0]](words, told, caps, bits)
     if found is None:
         raise Fault(f"{' '.join(words)} was answered {told}, and no condition for it holds")
     return found
 
 
-def capset(words, told, caps, bits):
+def capset(words: list[str], told: str, caps: Sequence[int], bits: Sequence[int]) -> Reason | None:
     """The four conditions of capset(2), in the manual's order."""
     permitted, inheritable, effective = (int(word, 16) for word in words[1:4])
     has = caps[EFFECTIVE] >> SETPCAP & 1
@@ -74,7 +77,7 @@ def no_capability(word: str, source: str) -> Reason:
     return Reason(f"EINVAL: {word} is no capability: the last one is {LAST}", source)
 
 
-def capdrop(words, told, caps, bits):
+def capdrop(words: list[str], told: str, caps: Sequence[int], bits: Sequence[int]) -> Reason | None:
     """CAP_SETPCAP is asked first, then the number."""
     if not caps[EFFECTIVE] >> SETPCAP & 1:
         found = Reason("EPERM: CAP_SETPCAP is not effective", sources.BOUND_DROP)
@@ -84,7 +87,9 @@ def capdrop(words, told, caps, bits):
     return None
 
 
-def ambraise(words, told, caps, bits):
+def ambraise(
+    words: list[str], told: str, caps: Sequence[int], bits: Sequence[int]
+) -> Reason | None:
     """The number is asked first; then permitted and inheritable, and the flag."""
     if above(words[1]):
         return no_capability(words[1], sources.RAISE) if told == "einval" else None
@@ -102,14 +107,18 @@ def ambraise(words, told, caps, bits):
     return Reason("EPERM: " + "; ".join(lacks), sources.RAISE)
 
 
-def amblower(words, told, caps, bits):
+def amblower(
+    words: list[str], told: str, caps: Sequence[int], bits: Sequence[int]
+) -> Reason | None:
     """Only the number may be wrong."""
     if told == "einval" and above(words[1]):
         return no_capability(words[1], sources.LOWER)
     return None
 
 
-def securebits(words, told, caps, bits):
+def securebits(
+    words: list[str], told: str, caps: Sequence[int], bits: Sequence[int]
+) -> Reason | None:
     """CAP_SETPCAP, the locks, and flags that there are not."""
     new, old = int(words[1]), bits[0]
     locked = (old & LOCKS) >> 1
@@ -127,7 +136,9 @@ def securebits(words, told, caps, bits):
     return Reason("EPERM: " + "; ".join(lacks), sources.SET_BITS)
 
 
-def keepcaps(words, told, caps, bits):
+def keepcaps(
+    words: list[str], told: str, caps: Sequence[int], bits: Sequence[int]
+) -> Reason | None:
     """The number is asked first; then the lock."""
     if int(words[1]) > 1:
         found = Reason(f"EINVAL: {words[1]} is neither 0 nor 1", sources.KEEP)
@@ -137,7 +148,9 @@ def keepcaps(words, told, caps, bits):
     return None
 
 
-def nonewprivs(words, told, caps, bits):
+def nonewprivs(
+    words: list[str], told: str, caps: Sequence[int], bits: Sequence[int]
+) -> Reason | None:
     """It is set by 1 alone."""
     if told == "einval" and words[1] != "1":
         return Reason(f"EINVAL: {words[1]} is not 1, and the flag is never unset",
@@ -145,13 +158,13 @@ def nonewprivs(words, told, caps, bits):
     return None
 
 
-REFUSALS = {
+REFUSALS: dict[str, Callable[..., Reason | None]] = {
     "capset": capset, "capdrop": capdrop, "ambraise": ambraise, "amblower": amblower,
     "securebits": securebits, "keepcaps": keepcaps, "nonewprivs": nonewprivs,
 }  # fmt: skip
 
 
-def changes(words: list[str], before, after) -> list[Reason]:
+def changes(words: list[str], before: Sequence[int], after: Sequence[int]) -> list[Reason]:
     """What the sets became by such a call, compared with what they were."""
     call, sets = words[0], list(before)
     told: list[Reason] = []

@@ -5,52 +5,26 @@ from __future__ import annotations
 import argparse
 import sys
 
-from .asking import BYTES
+from scripts.names import without_names
+
+from .inputs import bytes_of, capability, line_number, shown
 from .life import Life
-from .names import LAST, NUMBERS, cap_number
+from .names import cap_number
 from .program import audited, report_of
 from .reason import A_FAULT, Bad, Fault, NotFound
 from .script import Script
 from .tell import Teller
+from .values import BYTES
+
+__all__ = ["capability", "main"]
 
 TOLD, FAULT, BAD, NOT_FOUND = 0, 1, 2, 3
 REPORT_BYTES = 402653184
+# The options of a log that --log takes too.
+OF_LOGS = "credtrace-from-strace"
+LOG_OPTIONS = {"start": "FILE", "files": "FILE", "folder": "PATH", "root": "PATH", "proc": "FOLDER"}
 # The questions on one capability of a task.
 ONE = ("capable", "ambis", "bset")
-
-
-def shown(path: str) -> str:
-    """The name of an input as it is told of."""
-    name = "standard input" if path == "-" else path
-    return "".join(c if c.isprintable() else "?" for c in name)[:200]
-
-
-def bytes_of(path: str, limit: int) -> bytes:
-    """The bytes of an input: one more than may be, where there are more."""
-    try:
-        if path == "-":
-            return sys.stdin.buffer.read(limit + 1)
-        with open(path, "rb") as file:
-            return file.read(limit + 1)
-    except (OSError, ValueError) as fault:
-        raise Bad(getattr(fault, "strerror", None) or str(fault)) from None
-
-
-def capability(word: str) -> int:
-    """The number of a capability that is given by its name, with or without CAP_, or its number."""
-    name = word.upper() if word.upper().startswith("CAP_") else f"CAP_{word.upper()}"
-    if name in NUMBERS:
-        return NUMBERS[name]
-    if word.isascii() and word.isdigit() and len(word) < 3 and int(word) <= LAST:
-        return int(word)
-    raise argparse.ArgumentTypeError(f"{shown(word)} is no capability")
-
-
-def line_number(word: str) -> int:
-    """The number of a line."""
-    if word.isascii() and word.isdigit() and len(word) < 7:
-        return int(word)
-    raise argparse.ArgumentTypeError(f"{shown(word)} is no number of a line")
 
 
 def parsed(words: list[str]) -> argparse.Namespace:
@@ -60,7 +34,9 @@ def parsed(words: list[str]) -> argparse.Namespace:
         description="Says why a call was answered as it was, and where a capability went. Without "
         "LINE: of each call that was refused, and of each that changed a set.",
     )
-    parser.add_argument("script", metavar="SCRIPT", help="the script; - is standard input")
+    parser.add_argument(
+        "script", metavar="SCRIPT", nargs="?", help="the script; - is standard input"
+    )
     parser.add_argument("line", metavar="LINE", nargs="?", type=line_number, help="this line alone")
     parser.add_argument("--task", metavar="T", help="this task alone, as t1")
     parser.add_argument(
@@ -69,7 +45,47 @@ def parsed(words: list[str]) -> argparse.Namespace:
     parser.add_argument(
         "--report", metavar="FILE", help="the report, where it is not that of `run`: of `lanes`"
     )
-    return parser.parse_args(words)
+    parser.add_argument(
+        "--log", metavar="LOG", help="in place of a script: a log of strace -f, of which each "
+        "refused call is told"
+    )
+    parser.add_argument("--all", action="store_true", help="of a log: each refused call by itself")
+    for name, what in LOG_OPTIONS.items():
+        parser.add_argument(f"--{name}", metavar=what, help=f"of a log, as {OF_LOGS} takes it")
+    given = parser.parse_args(words)
+    of_log = given.all or any(getattr(given, name) for name in LOG_OPTIONS)
+    if given.log is None and of_log:
+        parser.error("--all and the options of a log are for --log")
+    if (given.script is None) == (given.log is None):
+        parser.error("a SCRIPT is wanted, or --log LOG")
+    if given.log is not None and (given.line or given.task or given.report):
+        parser.error("LINE, --task and --report are of a script")
+    return given
+
+
+def told_of_log(given: argparse.Namespace) -> int:
+    """Tells of a log, and ends with the status."""
+    # What reads logs is another package, which is wanted here alone.
+    from strace.options import Options, converted
+    from tool.inputs import Fault as Refused
+    from watch.log_report import log_report
+
+    given_options = given.files, given.start, None, given.folder, given.root or "/", given.proc
+    try:
+        report = log_report(converted(Options([given.log], *given_options)))
+        lines = report.text(given.all, given.start) if given.cap is None else (
+            report.life(given.cap, given.start))  # fmt: skip
+        for line in lines:
+            print(line)
+    except Refused as fault:
+        print(f"credtrace-why: {fault}", file=sys.stderr)
+        return BAD
+    except Fault as fault:
+        print(f"credtrace-why: {shown(given.log)}: {A_FAULT}: {fault}", file=sys.stderr)
+        return FAULT
+    for note in report.converter.notes:
+        print(note, file=sys.stderr)
+    return FAULT if report.teller.faults else TOLD
 
 
 def tasks_of(teller: Teller, given: str | None) -> list[str]:
@@ -93,8 +109,15 @@ def lacked(lines: Script, teller: Teller, line: int) -> list[str]:
 def told(given: argparse.Namespace) -> tuple[list[str], int]:
     """What is told, and the status."""
     script = bytes_of(given.script, BYTES)
-    report = audited(script, bytes_of(given.report, REPORT_BYTES)) if given.report else (
-        report_of(script))  # fmt: skip
+    other = bytes_of(given.report, REPORT_BYTES) if given.report else None
+    try:
+        report = report_of(script) if other is None else audited(script, other)
+    except Bad:
+        # Perhaps its sets are names: credtrace-names --to-script writes it so too.
+        named, script = script, without_names(script)
+        if script == named:
+            raise
+        report = report_of(script) if other is None else audited(script, other)
     lines = Script(script.decode("latin-1"))
     if given.line is not None:
         lines.line(given.line)
@@ -119,6 +142,8 @@ def told(given: argparse.Namespace) -> tuple[list[str], int]:
 def main(words: list[str]) -> int:
     """Tells why."""
     given = parsed(words)
+    if given.log is not None:
+        return told_of_log(given)
     try:
         lines, status = told(given)
     except Bad as bad:

@@ -2,6 +2,7 @@
 
 from __future__ import annotations
 
+from collections.abc import Sequence
 from dataclasses import dataclass
 
 from . import access, sources
@@ -30,7 +31,7 @@ class Program:
     privileged: str
 
 
-def program(file: File, ids, bits, chain: list[int]) -> Program:
+def program(file: File, ids: Sequence[int], bits: Sequence[int], chain: Sequence[int]) -> Program:
     """What of a file counts for a task with these ids, bits and roots."""
     ignored = "it lies on a file system mounted nosuid" if file.nosuid else ""
     if bits[1]:
@@ -53,7 +54,15 @@ def program(file: File, ids, bits, chain: list[int]) -> Program:
     return Program(file, ignored, error, attribute, uid, gid, listed(privileged))
 
 
-def refusal(file: File, told: str, ids, caps, groups, bits, chain: list[int]) -> Reason:
+def refusal(
+    file: File,
+    told: str,
+    ids: Sequence[int],
+    caps: Sequence[int],
+    groups: Sequence[int],
+    bits: Sequence[int],
+    chain: Sequence[int],
+) -> Reason:
     """Why an execve is refused."""
     may = access.may(file, "x", ids, caps, groups)
     if told == "eacces":
@@ -81,7 +90,9 @@ def refusal(file: File, told: str, ids, caps, groups, bits, chain: list[int]) ->
     return Reason(text, sources.DUMB)
 
 
-def file_sets(taken: Program, ids, bits, root: int) -> tuple[int, int, bool, Reason, bool]:
+def file_sets(
+    taken: Program, ids: Sequence[int], bits: Sequence[int], root: int
+) -> tuple[int, int, bool, Reason, bool]:
     """F(permitted), F(inheritable) and F(effective), how they came, and whether by root's rule."""
     permitted = inheritable = 0
     effective = False
@@ -104,7 +115,7 @@ def file_sets(taken: Program, ids, bits, root: int) -> tuple[int, int, bool, Rea
     return ALL, ALL, effective or taken.uid == root, Reason(text, sources.BY_ROOT), True
 
 
-def plain(taken: Program, real: int, bits, root: int) -> Reason:
+def plain(taken: Program, real: int, bits: Sequence[int], root: int) -> Reason:
     """How F's sets came where the rule for root gives nothing."""
     name = taken.file.name
     if root in (real, taken.uid):
@@ -129,7 +140,15 @@ def plain(taken: Program, real: int, bits, root: int) -> Reason:
 
 
 def changes(
-    file: File, told: list[str], ids, new, before, after, bits, chain, mask: int = ALL
+    file: File,
+    told: list[str],
+    ids: Sequence[int],
+    new: Sequence[int],
+    before: Sequence[int],
+    after: Sequence[int],
+    bits: Sequence[int],
+    chain: Sequence[int],
+    mask: int = ALL,
 ) -> list[Reason]:
     """What an execve made of the sets, compared with what they became and were told to gain. The
     equations are shown of the capabilities in the mask."""
@@ -155,7 +174,7 @@ def changes(
     if sets[AMBIENT] != before[AMBIENT]:
         text = f"P'(ambient) = none: {file.name} is privileged, since {taken.privileged}"
         found.append(Reason(text, sources.EXECVE_SETS, (AMBIENT, PERMITTED, EFFECTIVE)))
-    found += equations(shown[:5], shown[5:10], *shown[10:], effective)
+    found += equations(shown[:5], shown[5:10], shown[10], shown[11], effective)
     if bits[1] and (inherits | gives) & ~before[PERMITTED]:
         text = f"permitted is cut to the old permitted set, {named(before[PERMITTED])}"
         found.append(Reason(f"{text}: no_new_privs is set", sources.NO_NEW_PRIVS))
@@ -171,7 +190,9 @@ def hold_gains(told: list[str], gained: int, gives: int, by_root: bool) -> None:
         raise Fault(f"the gains were told as {named(file)}, {named(inherited)}, {named(root)}")
 
 
-def equations(before, sets, permitted, inheritable, effective) -> list[Reason]:
+def equations(
+    before: Sequence[int], sets: Sequence[int], permitted: int, inheritable: int, effective: bool
+) -> list[Reason]:
     """The equations of the manual with their values."""
     source = sources.EXECVE_SETS
     given = before[INHERITABLE] & inheritable | permitted & before[BOUNDING] | sets[AMBIENT]

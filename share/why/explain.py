@@ -4,17 +4,20 @@ from __future__ import annotations
 
 from collections.abc import Callable
 
-from . import access, adjust, execve, filing, ids, looking, sources
-from .asking import KINDS, Values
-from .books import Decision
+from . import access, adjust, execve, file_rules, ids, linux, ptrace_rules, sources
+from .values import KINDS, Values
+from .records import Decision
 from .journal import Journal
 from .names import ALL, LAST, cap_number
 from .reason import BITS, CAPS, GROUPS, IDS, Fault, NotFound, Reason
 from .script import File
 
 # What a change is decided on; and behind it, where it leads to other ids.
-BEFORE = {"exec": (IDS, CAPS, BITS), "setfsuid": (IDS, CAPS, BITS), "setfsgid": (IDS, CAPS)}
+BEFORE = {"exec": (IDS, CAPS, GROUPS, BITS), "setfsuid": (IDS, CAPS, BITS), "setfsgid": (IDS, CAPS)}
 AFTER = {"exec": (IDS, CAPS), "setfsuid": (IDS, CAPS), "setfsgid": (IDS, CAPS)}
+
+
+Numbers = tuple[int, ...]
 
 
 class Explainer:
@@ -27,18 +30,26 @@ class Explainer:
         # Whether it is also told why an event was not refused.
         self.full = journal.whole is not None
 
-    def asked(self, credential: int) -> tuple:
+    def asked(self, credential: int | None) -> tuple[Numbers, Numbers, Numbers]:
         """The ids, the sets and the groups of a credential."""
         values = self.values
         return values.ids(credential), values.caps(credential), values.groups(credential)
 
     def file_of(self, decision: Decision) -> File:
         """The file of a decision, as it stood."""
-        return filing.stands(decision.file, self.asked)
+        if decision.file is None:
+            raise Fault("the entry names no file")
+        return file_rules.stands(decision.file, self.asked)
 
-    def roots(self, credential: int) -> list[int]:
+    def roots(self, credential: int | None) -> list[int]:
         """The root ids of a credential's namespace and of those above it."""
-        return self.journal.script.roots[self.journal.namespaces[credential]]
+        return self.journal.script.roots[self.namespace(credential)]
+
+    def namespace(self, credential: int | None) -> int:
+        """The user namespace of a credential."""
+        if credential is None:
+            raise Fault("the entry names no credential that has a namespace")
+        return self.journal.namespaces[credential]
 
     def wants(self, decision: Decision) -> None:
         """Has all asked for that the sentences of a decision rest on."""
@@ -57,12 +68,12 @@ class Explainer:
             want(before, IDS, CAPS, *((BITS,) if not decision.refused else ()))
             want(after, IDS, CAPS)
         elif event == "commit":
-            call = decision.change[0]
+            call = self.changed_by(decision)[0]
             want(before, *BEFORE.get(call, (CAPS,)))
             want(after, *AFTER.get(call, (CAPS,)))
         elif event == "change":
             self.wants_of_change(decision.words[2], before)
-        elif event in filing.EVENTS or event == "open":
+        elif event in file_rules.EVENTS or event == "open":
             want(before, IDS, CAPS, GROUPS)
         elif event == "ask" and decision.words[2] == "check":
             want(before, IDS, CAPS, GROUPS)
@@ -78,7 +89,7 @@ class Explainer:
 
     def wants_of_file(self, decision: Decision) -> None:
         """What the mode of a file that was changed rests on."""
-        if isinstance(decision.file, filing.Version):
+        if isinstance(decision.file, file_rules.Version):
             for credential in decision.file.credentials():
                 self.values.want(credential, IDS, CAPS, GROUPS)
 
@@ -102,7 +113,7 @@ class Explainer:
         if decision.reason is not None:
             return [decision.reason]
         if decision.refused:
-            return [self.refusal(decision)]
+            return [self.refusal(decision), *self.on_linux(decision)]
         if decision.words[0] == "commit":
             return self.committed(decision)
         if decision.words[0] in ("override", "revert"):
@@ -117,8 +128,8 @@ class Explainer:
     def allowed(self, decision: Decision) -> list[Reason]:
         """Why a rule doesn't refuse an event."""
         words, before, values = decision.words, decision.before, self.values
-        if words[0] in filing.EVENTS:
-            return filing.allowed(words, self.file_of(decision), *self.asked(before))
+        if words[0] in file_rules.EVENTS:
+            return file_rules.allowed(words, self.file_of(decision), *self.asked(before))
         if words[0] in ("begin", "act", "raw"):
             call = self.call_of(decision)
             return [ids.allowed(call[0], call[1:], values.ids(before), values.caps(before))]
@@ -127,9 +138,9 @@ class Explainer:
             return [access.allowed(self.file_of(decision), want, *self.asked(before))]
         if words[0] == "signal":
             asked = values.ids(before), values.caps(before), values.ids(decision.target)
-            return [access.signal_allowed(*asked, decision.change)]
+            return [access.signal_allowed(*asked, decision.within)]
         if words[0] == "ptrace":
-            return [self.look(decision, looking.allowed)]
+            return [self.look(decision, ptrace_rules.allowed)]
         if words[0] == "dumped":
             dumpable, text = self.flag_of(decision)
             if decision.told != ["ok", str(int(dumpable))]:
@@ -139,25 +150,27 @@ class Explainer:
 
     def flag_of(self, decision: Decision) -> tuple[bool, str]:
         """Whether the process is dumpable, and since when."""
-        dumpable, flag = looking.found(decision.flag, self.values.ids)
-        return dumpable, looking.since(flag, dumpable, self.journal.script.line(flag.line))
+        if decision.flag is None:
+            raise Fault("the entry looks into no process")
+        dumpable, flag = ptrace_rules.found(decision.flag, self.values.ids)
+        return dumpable, ptrace_rules.since(flag, dumpable, self.journal.script.line(flag.line))
 
     def look(self, decision: Decision, why: Callable[..., Reason]) -> Reason:
         """Why a look into another task is refused or allowed."""
-        if decision.change:
+        if decision.within:
             return Reason("allowed: both are threads of one process", sources.TRACE)
-        values, spaces = self.values, self.journal.namespaces
+        values = self.values
         sides = (decision.before, decision.target)
         own, other = ((values.ids(it), values.caps(it)) for it in sides)
-        one, two = (spaces[it] for it in sides)
+        one, two = (self.namespace(it) for it in sides)
         reach = one in self.journal.script.spaces[two]
         return why(decision.words[1], own, other, reach, one == two, self.flag_of(decision))
 
     def born(self, decision: Decision) -> Reason:
         """The sets that a new task has."""
         words, after = decision.words, decision.after
-        if decision.target is not None:
-            text = f"{decision.task} has the credential of {decision.target}, c{after}"
+        if decision.creator is not None:
+            text = f"{decision.task} has the credential of {decision.creator}, c{after}"
             return Reason(text, sources.CLONE if words[0] == "spawn" else sources.THREAD_SETS)
         root, user = self.roots(after)[0], int(words[3])
         full = ALL if user == root else 0
@@ -170,14 +183,20 @@ class Explainer:
 
     def call_of(self, decision: Decision) -> list[str]:
         """The words of a call that sets ids."""
-        return decision.change if decision.words[0] == "act" else decision.words[2:]
+        return self.changed_by(decision) if decision.words[0] == "act" else decision.words[2:]
+
+    def changed_by(self, decision: Decision) -> list[str]:
+        """The words of the call that is committed or followed."""
+        if decision.change is None:
+            raise Fault("the entry commits no call")
+        return decision.change
 
     def refusal(self, decision: Decision) -> Reason:
         """Why a rule refuses an event."""
         event, words, told = decision.words[0], decision.words, decision.told[0]
         before, values = decision.before, self.values
-        if event in filing.EVENTS:
-            return filing.refusal(words, told, self.file_of(decision), *self.asked(before))
+        if event in file_rules.EVENTS:
+            return file_rules.refusal(words, told, self.file_of(decision), *self.asked(before))
         if event in ("begin", "act", "raw"):
             call = self.call_of(decision)
             error = decision.told[2] if told == "aborted" else told
@@ -193,12 +212,12 @@ class Explainer:
             return by_access(found) if self.is_access(decision.line) else found
         if event == "open" and told == "eacces":
             file = self.file_of(decision)
-            return access.refusal(file, words[3], *self.asked(before), sources.OPEN)
+            return access.refusal(file, words[3], *self.asked(before), source=sources.OPEN)
         # Within one process a signal is always allowed.
-        if event == "signal" and told == "eperm" and not decision.change:
+        if event == "signal" and told == "eperm" and not decision.within:
             return self.signal_refused(decision)
-        if event == "ptrace" and told == "eperm" and not decision.change:
-            return self.look(decision, looking.refused)
+        if event == "ptrace" and told == "eperm" and not decision.within:
+            return self.look(decision, ptrace_rules.refused)
         if event == "dumpable" and told == "einval" and words[2] not in ("0", "1"):
             return Reason(f"EINVAL: {words[2]} is neither 0 nor 1", sources.DUMPABLE)
         raise Fault(f"no sentence for {' '.join(words)}, answered {told}")
@@ -215,8 +234,8 @@ class Explainer:
             asked = *self.asked(before), values.bits(before), self.roots(before)
             return execve.refusal(self.file_of(decision), told, *asked)
         needs = adjust.NEEDS.get(words[0], ())
-        caps = values.caps(before) if CAPS in needs else None
-        bits = values.bits(before) if BITS in needs else None
+        caps = values.caps(before) if CAPS in needs else ()
+        bits = values.bits(before) if BITS in needs else ()
         return adjust.refusal(words, told, caps, bits)
 
     def question_refused(self, decision: Decision) -> Reason:
@@ -247,18 +266,30 @@ class Explainer:
 
     def committed(self, decision: Decision) -> list[Reason]:
         """What a commit made of the sets."""
-        words, values = decision.change, self.values
+        words, values = self.changed_by(decision), self.values
         before, after = decision.before, decision.after
         sets = values.caps(before), values.caps(after)
         if words[0] == "exec":
             file = self.file_of(decision)
             asked = values.ids(before), values.ids(after), *sets, values.bits(before)
-            return execve.changes(file, decision.told, *asked, self.roots(before), self.mask)
+            found = execve.changes(file, decision.told, *asked, self.roots(before), self.mask)
+            return found + self.on_linux(decision)
         if words[0] in ("setfsuid", "setfsgid"):
-            asked = values.ids(before), values.ids(after), *sets
+            old, new = values.ids(before), values.ids(after)
             bits = values.bits(before)[0] if words[0] == "setfsuid" else 0
-            return ids.filesystem(*words, *asked, bits, self.roots(before)[0])
+            root = self.roots(before)[0]
+            return ids.filesystem(words[0], words[1], old, new, *sets, bits, root)
         return adjust.changes(words, *sets)
+
+    def on_linux(self, decision: Decision) -> list[Reason]:
+        """What Linux makes of an execve otherwise."""
+        words, before, values = decision.words, decision.before, self.values
+        call = decision.change if words[0] == "commit" else words[2:]
+        if before is None or not call or call[0] != "exec" or words[0] not in ("commit", "change"):
+            return []
+        asked = values.ids(before), values.caps(before), values.groups(before), values.bits(before)
+        found = linux.execve(self.file_of(decision), *asked, self.roots(before))
+        return linux.reasons(found, self.mask)
 
     def explained(self, decisions: list[Decision]) -> list[list[Reason] | Fault | NotFound]:
         """The sentences of many decisions, all of which are asked for at once; or why one has none:

@@ -2,6 +2,8 @@
 
 from __future__ import annotations
 
+from collections.abc import Sequence
+
 from . import sources
 from .names import (
     AMBIENT, BOUNDING, EFFECTIVE, INHERITABLE, KEEP_CAPS, NO_SETUID_FIXUP, NUMBERS, PERMITTED,
@@ -33,10 +35,11 @@ def needed(call: str) -> int:
 def places(call: str) -> list[tuple[int, ...]]:
     """For each argument, which of the old real, effective and saved id it may be unprivileged."""
     kind = call.replace("uid", "").replace("gid", "")
-    return {
+    allowed: dict[str, list[tuple[int, ...]]] = {
         "set": [(0, 2)], "sete": [(0, 1, 2)], "setre": [(0, 1), (0, 1, 2)],
         "setres": [(0, 1, 2)] * 3,
-    }[kind]  # fmt: skip
+    }  # fmt: skip
+    return allowed[kind]
 
 
 IS_NONE = {
@@ -46,7 +49,9 @@ IS_NONE = {
 }
 
 
-def refusal(call: str, words: list[str], told: str, ids, caps) -> Reason:
+def refusal(
+    call: str, words: list[str], told: str, ids: Sequence[int], caps: Sequence[int]
+) -> Reason:
     """Why a call that sets ids is refused."""
     capability = needed(call)
     has = caps[EFFECTIVE] >> capability & 1
@@ -81,7 +86,7 @@ def refused_groups(words: list[str], told: str, has: int) -> Reason:
     raise Fault(f"setgroups of {len(words)} groups was answered {told}, and CAP_SETGID: {has}")
 
 
-def allowed(call: str, words: list[str], ids, caps) -> Reason:
+def allowed(call: str, words: list[str], ids: Sequence[int], caps: Sequence[int]) -> Reason:
     """Why a call that sets ids is not refused."""
     name = "CAP_SETUID" if needed(call) == SETUID else "CAP_SETGID"
     if caps[EFFECTIVE] >> needed(call) & 1:
@@ -100,7 +105,15 @@ def allowed(call: str, words: list[str], ids, caps) -> Reason:
     return Reason(text, sources.text(call))
 
 
-def changes(call: str, old, new, before, after, bits: int, root: int) -> list[Reason]:
+def changes(
+    call: str,
+    old: Sequence[int],
+    new: Sequence[int],
+    before: Sequence[int],
+    after: Sequence[int],
+    bits: int,
+    root: int,
+) -> list[Reason]:
     """What the sets became where a call set ids, compared with what they were."""
     if not of_users(call):
         same(before, after, "a call that sets group ids changes no set")
@@ -127,7 +140,9 @@ def changes(call: str, old, new, before, after, bits: int, root: int) -> list[Re
     return told
 
 
-def leaves_root(sets: list[int], old, new, bits: int, root: int) -> list[Reason]:
+def leaves_root(
+    sets: list[int], old: Sequence[int], new: Sequence[int], bits: int, root: int
+) -> list[Reason]:
     """Root's ids are gone: the first rule. The sets are changed in place."""
     keeps = bits & KEEP_CAPS
     emptied = [AMBIENT] if keeps else [PERMITTED, EFFECTIVE, AMBIENT]
@@ -149,7 +164,16 @@ def leaves_root(sets: list[int], old, new, bits: int, root: int) -> list[Reason]
     return told
 
 
-def filesystem(call: str, word: str, ids, new, before, after, bits: int, root: int):
+def filesystem(
+    call: str,
+    word: str,
+    ids: Sequence[int],
+    new: Sequence[int],
+    before: Sequence[int],
+    after: Sequence[int],
+    bits: int,
+    root: int,
+) -> list[Reason]:
     """What setfsuid and setfsgid made of the filesystem id and of the effective set."""
     user = call == "setfsuid"
     who, place = ("user", 3) if user else ("group", 7)
@@ -174,7 +198,9 @@ def filesystem(call: str, word: str, ids, new, before, after, bits: int, root: i
     return eight(ids[3], new[3], before, after, root)
 
 
-def eight(old: int, new: int, before, after, root: int) -> list[Reason]:
+def eight(
+    old: int, new: int, before: Sequence[int], after: Sequence[int], root: int
+) -> list[Reason]:
     """The eight capabilities on files follow the filesystem user id."""
     sets, told = list(before), []
     if old == root != new:
@@ -191,7 +217,7 @@ def eight(old: int, new: int, before, after, root: int) -> list[Reason]:
     return told
 
 
-def same(sets, after, why: str) -> None:
+def same(sets: Sequence[int], after: Sequence[int], why: str) -> None:
     """The sets are what they should be; else it is a fault."""
     for place in (PERMITTED, INHERITABLE, EFFECTIVE, BOUNDING, AMBIENT):
         if sets[place] != after[place]:
@@ -199,4 +225,3 @@ def same(sets, after, why: str) -> None:
                 f"the {SETS[place]} set became {named(after[place])}, and should be "
                 f"{named(sets[place])}: {why}"
             )
-

@@ -6,12 +6,12 @@ can be told with what stood in its way. No rule on credentials is known here.
 
 from __future__ import annotations
 
-from . import stood
-from .books import Cast, Decision, Home, Label, Task
-from .filed import Filed
-from .filing import Version, named
-from .looking import Flag
-from .looks import Looks
+from . import obstacles
+from .records import Cast, Decision, Home, Label, Task
+from .file_events import FileEvents
+from .file_rules import Version, named
+from .ptrace_rules import Flag
+from .ptrace_events import PtraceEvents
 from .reason import CAPS, IDS, Fault
 from .script import File, Script
 
@@ -19,7 +19,7 @@ RULED = frozenset(("eperm", "einval", "eacces"))
 HOLDS = 512
 
 
-class Journal(Looks, Filed):
+class Journal(PtraceEvents, FileEvents):
     """The entries of a report, followed one after another."""
 
     def __init__(self, script: Script, report: str, line: int | None = None) -> None:
@@ -76,24 +76,29 @@ class Journal(Looks, Filed):
         first = self.script.lines[self.line - 1].split(None, 1)[0]
         return first if first[0] == "t" and first[1:].isdigit() else task or ""
 
-    def decide(self, words, told, task, before=None, after=None) -> Decision:
+    def decide(
+        self, words: list[str], told: list[str], task: str, before: int | None = None,
+        after: int | None = None,
+    ) -> Decision:  # fmt: skip
         """Keeps an entry that is told."""
         decision = Decision(self.index, self.line, words, told, task, before, after)
         decision.file = self.infos.get(named(words) or "")
         self.decisions.append(decision)
         return decision
 
-    def refuse(self, words, told, task=None, before=None) -> Decision:
+    def refuse(
+        self, words: list[str], told: list[str], task: str | None = None, before: int | None = None
+    ) -> Decision:
         """Keeps a refusal; one that is about what is there, with what stood in the way."""
         decision = self.decide(words, told, task or self.actor(None), before)
         if told[0] not in RULED and not (told[0] == "aborted" and told[2] == "eperm"):
             try:
-                decision.reason = stood.reason(self, words, told)
+                decision.reason = obstacles.reason(self, words, told)
             except Fault as fault:
                 decision.reason = fault
         return decision
 
-    def seal(self, told, place, task: Task) -> int:
+    def seal(self, told: list[str], place: int, task: Task) -> int:
         """A credential that came into use, and where it stands."""
         number = int(told[place][1:])
         self.slots[number] = int(told[place + 1][1:])
@@ -117,13 +122,13 @@ class Journal(Looks, Filed):
         self.leaves(task, task.current)
         task.current, task.since = number, self.line
 
-    def born(self, words, told, name, process, namespace, current, how, creator) -> None:
+    def born(self, words: list[str], told: list[str], task: Task) -> None:
         """A task is there."""
-        self.tasks[name] = Task(name, process, namespace, current, self.line, how, creator)
-        self.processes.setdefault(process, {})[name] = None
-        self.gone_tasks.pop(name, None)
-        birth = Decision(self.index, self.line, words, told, name, None, current)
-        birth.target = creator
+        self.tasks[task.name] = task
+        self.processes.setdefault(task.process, {})[task.name] = None
+        self.gone_tasks.pop(task.name, None)
+        birth = Decision(self.index, self.line, words, told, task.name, None, task.current)
+        birth.creator = task.creator
         self.births.append(birth)
 
     def ends(self, name: str, how: str) -> None:
@@ -155,7 +160,7 @@ class Journal(Looks, Filed):
 
     # The events.
 
-    def on_init(self, words, told):
+    def on_init(self, words: list[str], told: list[str]) -> None:
         """A first task."""
         if told[0] != "ok":
             self.refuse(words, told, words[1])
@@ -163,10 +168,11 @@ class Journal(Looks, Filed):
         namespace = int(words[5][1:])
         number = int(told[1][1:])
         self.flags.setdefault(words[2], Flag("first", self.line))
-        self.born(words, told, words[1], words[2], namespace, number, "first task", None)
-        self.seal(told, 1, self.tasks[words[1]])
+        task = Task(words[1], words[2], namespace, number, self.line, "first task", None)
+        self.born(words, told, task)
+        self.seal(told, 1, task)
 
-    def on_take(self, words, told):
+    def on_take(self, words: list[str], told: list[str]) -> None:
         """A hold on what a task acts with, or is acted on by."""
         if told[0] == "ok":
             self.labels[words[1]] = Label(int(told[1][1:]), self.line)
@@ -175,7 +181,7 @@ class Journal(Looks, Filed):
 
     on_takereal = on_takefile = on_take
 
-    def on_drop(self, words, told):
+    def on_drop(self, words: list[str], told: list[str]) -> None:
         """A hold is given up."""
         if told[0] != "ok":
             self.refuse(words, told)
@@ -183,19 +189,20 @@ class Journal(Looks, Filed):
         del self.labels[words[1]]
         self.gone_labels[words[1]] = (self.line, "dropped")
 
-    def on_ask(self, words, told):
+    def on_ask(self, words: list[str], told: list[str]) -> None:
         """A question: its answer is kept; a check that isn't passed is told."""
-        label = self.labels.get(words[1])
         if told[0] == "ok":
+            credential = self.labels[words[1]].credential
             if words[2] in (IDS, CAPS, "bits", "groups"):
-                self.known[label.credential, words[2]] = told[1:]
+                self.known[credential, words[2]] = told[1:]
             if self.line == self.whole:
-                self.decide(words, told, self.actor(None), label.credential)
+                self.decide(words, told, self.actor(None), credential)
             return
+        label = self.labels.get(words[1])
         before = label.credential if label and label.slot is None else None
         self.refuse(words, told, None, before)
 
-    def on_prepare(self, words, told):
+    def on_prepare(self, words: list[str], told: list[str]) -> None:
         """A credential is prepared."""
         if told[0] != "ok":
             self.refuse(words, told, words[2])
@@ -203,7 +210,7 @@ class Journal(Looks, Filed):
         base = self.labels[words[3]].credential
         self.labels[words[1]] = Label(base, self.line, words[2], int(told[1][1:]))
 
-    def on_change(self, words, told):
+    def on_change(self, words: list[str], told: list[str]) -> None:
         """A prepared credential is changed."""
         label = self.labels.get(words[1])
         task = label.task if label else None
@@ -211,10 +218,11 @@ class Journal(Looks, Filed):
         if told[0] != "ok":
             self.refuse(words, told, task, before)
             return
+        label = self.labels[words[1]]
         label.change, label.access = words[2:], words[2] == "access"
-        label.file = self.decide(words, told, task, before).file
+        label.file = self.decide(words, told, label.task, before).file
 
-    def on_commit(self, words, told):
+    def on_commit(self, words: list[str], told: list[str]) -> None:
         """A prepared credential becomes the task's."""
         label = self.labels.get(words[1])
         if told[0] != "ok":
@@ -222,6 +230,7 @@ class Journal(Looks, Filed):
             if told[0] == "stale":
                 self.give_up(words[1], "given up by the stale commit")
             return
+        label = self.labels[words[1]]
         task = self.tasks[label.task]
         number = self.seal(told, 1, task)
         decision = self.decide(words, told, label.task, task.current, number)
@@ -246,14 +255,14 @@ class Journal(Looks, Filed):
         del self.labels[name]
         self.gone_labels[name] = (self.line, how)
 
-    def on_abort(self, words, told):
+    def on_abort(self, words: list[str], told: list[str]) -> None:
         """A prepared credential is given up."""
         if told[0] == "ok":
             self.give_up(words[1], "aborted")
         else:
             self.refuse(words, told)
 
-    def on_override(self, words, told):
+    def on_override(self, words: list[str], told: list[str]) -> None:
         """A task acts with another credential."""
         if told[0] != "ok":
             self.refuse(words, told, words[1])
@@ -267,7 +276,7 @@ class Journal(Looks, Filed):
         task.overrides.append((number, self.line))
         self.lends(words, told, task, number)
 
-    def on_revert(self, words, told):
+    def on_revert(self, words: list[str], told: list[str]) -> None:
         """The newest override ends."""
         if told[0] != "ok":
             self.refuse(words, told, words[1])
@@ -276,17 +285,16 @@ class Journal(Looks, Filed):
         self.leaves(task, task.overrides.pop()[0])
         self.lends(words, told, task, task.overrides[-1][0] if task.overrides else task.current)
 
-    def lends(self, words, told, task: Task, number: int) -> None:
+    def lends(self, words: list[str], told: list[str], task: Task, number: int) -> None:
         """A task acts with another credential from now on."""
         if self.script.line(self.line).split(" ")[1] != "access":
             lent = Decision(self.index, self.line, words, told, task.name, None, number)
             self.lendings.append(lent)
 
-    def on_begin(self, words, told):
+    def on_begin(self, words: list[str], told: list[str]) -> None:
         """A call that sets ids, by the thread that begins it."""
-        task = self.tasks.get(words[1])
-        if told[0] != "ok":
-            self.refuse(words, told, words[1], task.current if task else None)
+        task = self.caller(words, told)
+        if task is None:
             return
         number = self.seal(told, 1, task)
         self.decide(words, told, words[1], task.current, number)
@@ -296,21 +304,28 @@ class Journal(Looks, Filed):
         cast = self.casts[task.process] = Cast(self.line, words[1], words[2:], waiting)
         self.completed(task.process, cast)
 
-    def on_raw(self, words, told):
-        """A call that sets the ids of one thread alone."""
+    def caller(self, words: list[str], told: list[str]) -> Task | None:
+        """The task that makes a call on ids, where it is not refused."""
         task = self.tasks.get(words[1])
         if told[0] != "ok":
             self.refuse(words, told, words[1], task.current if task else None)
+            return None
+        return self.tasks[words[1]]
+
+    def on_raw(self, words: list[str], told: list[str]) -> None:
+        """A call that sets the ids of one thread alone."""
+        task = self.caller(words, told)
+        if task is None:
             return
         number = self.seal(told, 1, task)
         self.decide(words, told, words[1], task.current, number)
         self.flagged(task, number)
         self.current(task, number)
 
-    def on_act(self, words, told):
+    def on_act(self, words: list[str], told: list[str]) -> None:
         """A waiting thread makes the call too."""
         process, cast = self.cast_of(int(words[1]))
-        if told[0] not in ("ok", "aborted"):
+        if told[0] not in ("ok", "aborted") or cast is None:
             self.refuse(words, told)
             return
         task = self.tasks[told[1]]
@@ -332,7 +347,7 @@ class Journal(Looks, Filed):
         found = ((process, cast) for process, cast in self.casts.items() if cast.line == line)
         return next(found, ("", None))
 
-    def on_spawn(self, words, told):
+    def on_spawn(self, words: list[str], told: list[str]) -> None:
         """A thread more."""
         if told[0] != "ok":
             self.refuse(words, told, words[1])
@@ -340,12 +355,14 @@ class Journal(Looks, Filed):
         task = self.tasks[words[1]]
         how = f"spawned by {task.name}"
         number = int(told[1][1:])
-        self.born(words, told, words[2], task.process, task.namespace, number, how, task.name)
+        space, line = task.namespace, self.line
+        child = Task(words[2], task.process, space, number, line, how, task.name)
+        self.born(words, told, child)
         cast = self.casts.get(task.process)
         if cast is not None and task.name in cast.waiting:
             cast.waiting[words[2]] = None
 
-    def on_fork(self, words, told):
+    def on_fork(self, words: list[str], told: list[str]) -> None:
         """A process more."""
         if told[0] != "ok":
             self.refuse(words, told, words[1])
@@ -354,42 +371,26 @@ class Journal(Looks, Filed):
         how = f"forked by {task.name}"
         number = int(told[1][1:])
         self.flags[words[3]] = self.flags[task.process]
-        self.born(words, told, words[2], words[3], task.namespace, number, how, task.name)
+        space, line = task.namespace, self.line
+        self.born(words, told, Task(words[2], words[3], space, number, line, how, task.name))
 
-    def on_exit(self, words, told):
+    def on_exit(self, words: list[str], told: list[str]) -> None:
         """A task ends."""
         if told[0] == "ok":
             self.ends(words[1], "it ended")
         else:
             self.refuse(words, told, words[1])
 
-    def on_open(self, words, told):
-        """A file is opened."""
-        credential = self.labels[words[1]].credential if words[1] in self.labels else None
-        if told[0] == "ok":
-            self.files[words[4]] = (credential, self.line)
-            self.decide(words, told, self.actor(None), credential)
-        else:
-            self.refuse(words, told, None, credential)
-
-    def on_close(self, words, told):
-        """A file is closed."""
-        if told[0] == "ok":
-            del self.files[words[1]]
-            self.gone_files[words[1]] = self.line
-        else:
-            self.refuse(words, told)
-
-    def on_signal(self, words, told):
+    def on_signal(self, words: list[str], told: list[str]) -> None:
         """A signal."""
         if told[0] == "ok" and self.line != self.whole:
             return
         labels = [self.labels[word].credential for word in (words[2], words[4])]
-        keep = self.decide if told[0] == "ok" else self.refuse
-        decision = keep(words, told, words[1], labels[0])
+        entry = words, told, words[1], labels[0]
+        decision = self.decide(*entry) if told[0] == "ok" else self.refuse(*entry)
         decision.target = labels[1]
         sender, other = self.tasks.get(words[1]), self.tasks.get(words[3])
-        decision.change = bool(sender and other and sender.process == other.process)
+        decision.within = bool(sender and other and sender.process == other.process)
 
-    def on_sweep(self, words, told):
+    def on_sweep(self, words: list[str], told: list[str]) -> None:
         """What was given up is dropped."""

@@ -2,7 +2,8 @@
 
 from __future__ import annotations
 
-from .books import Decision
+from . import linux
+from .records import Decision
 from .names import EFFECTIVE, PERMITTED, SETS, cap_name, listed
 from .reason import CAPS, Bad, Fault, NotFound, Reason
 from .tell import Teller, wrapped
@@ -24,8 +25,10 @@ class Life:
         before = [it for it in births if line is None or it.line <= line]
         if not before:
             raise Bad(f"{self.task} is made in line {births[0].line}, behind line {line}")
-        birth, found = before[-1], []
-        end = next((it.index for it in births if it.index > birth.index), len(self.journal.entries))
+        birth: Decision | None = before[-1]
+        found: list[Decision] = []
+        later = (it.index for it in births if it.index > before[-1].index)
+        end = next(later, len(self.journal.entries))
         while birth is not None:
             own = [
                 it
@@ -33,12 +36,12 @@ class Life:
                 if it.task == birth.task and birth.index < it.index < end and it.after is not None
             ]
             found += [birth, *own]
-            end, creator = birth.index, birth.target
+            end, creator = birth.index, birth.creator
             born = [it for it in self.journal.births if it.task == creator and it.index < end]
             birth = born[-1] if born else None
         return sorted(found, key=lambda it: it.index)
 
-    def sets(self, credential: int) -> list[int]:
+    def sets(self, credential: int | None) -> list[int]:
         """The sets of a credential that have the capability, by their places."""
         caps = self.values.caps(credential)
         return [place for place in range(5) if caps[place] >> self.capability & 1]
@@ -57,16 +60,30 @@ class Life:
             if lent:
                 found += self.lent(it, sets)
                 continue
-            if it.before is None and (it.target is None or it.task == self.task):
+            if it.before is None and (it.creator is None or it.task == self.task):
                 found += self.step(it, f"in {self.names(sets)}", reasons)
             elif sets != now and it.before is not None:
                 for place in set(now) - set(sets):
                     gone[place] = it.line
                 found += self.step(it, self.difference(now, sets), self.about(reasons, now, sets))
-            elif it.change and it.change[0] == "exec" and PERMITTED not in sets:
-                found += self.step(it, f"still in {self.names(sets)}", reasons)
+            elif it.change and it.change[0] == "exec":
+                if PERMITTED not in sets or self.on_linux(reasons):
+                    found += self.step(it, f"still in {self.names(sets)}", reasons)
             now = sets
-        return found + wrapped(self.end(now, gone), 0)
+        return found + wrapped(self.end(now, gone) + self.otherwise(explained), 0)
+
+    def on_linux(self, reasons: list[Reason] | Fault | NotFound) -> bool:
+        """Whether Linux leaves it in other sets than the rules do."""
+        return isinstance(reasons, list) and any(it.source == linux.SOURCE for it in reasons)
+
+    def otherwise(self, explained: list[list[Reason] | Fault | NotFound]) -> str:
+        """What is added to the end where Linux does otherwise."""
+        lines = [it.line for it, reasons in zip(self.steps, explained, strict=True)
+                 if self.on_linux(reasons)]  # fmt: skip
+        if not lines:
+            return ""
+        places = listed([self.teller.place(line) for line in dict.fromkeys(lines)])
+        return f" That is by the rules: by docs/LINUX.md, not by proof, Linux differs at {places}."
 
     def names(self, sets: list[int]) -> str:
         """Sets by their names."""
@@ -79,7 +96,9 @@ class Life:
                  if sets]  # fmt: skip
         return ", ".join(parts)
 
-    def about(self, reasons, old: list[int], new: list[int]):
+    def about(
+        self, reasons: list[Reason] | Fault | NotFound, old: list[int], new: list[int]
+    ) -> list[Reason] | Fault | NotFound:
         """The sentences on sets that it came into or left."""
         if not isinstance(reasons, list):
             return reasons
@@ -109,8 +128,8 @@ class Life:
         if EFFECTIVE in now:
             return f"{name} is effective in the end."
         if PERMITTED in now:
-            since = f" since line {gone[EFFECTIVE]}" if EFFECTIVE in gone else ""
+            since = f" since {self.teller.place(gone[EFFECTIVE])}" if EFFECTIVE in gone else ""
             return f"{name} is permitted in the end, and not effective{since}."
         if PERMITTED in gone:
-            return f"{name} vanished at line {gone[PERMITTED]}: it {rest}."
+            return f"{name} vanished at {self.teller.place(gone[PERMITTED])}: it {rest}."
         return f"{name} never was permitted: it {rest}."

@@ -2,6 +2,7 @@
 
 from __future__ import annotations
 
+from collections.abc import Sequence
 from functools import lru_cache
 
 from capabilities import CAPABILITIES as CAPS
@@ -83,7 +84,7 @@ def flags(bits: int) -> str:
     return ",".join(found) or "none"
 
 
-def listed(words: list[str] | list[int], last: str = "and") -> str:
+def listed(words: Sequence[str] | Sequence[int], last: str = "and") -> str:
     """Words one after another: `1, 2 and 3`."""
     texts = [str(word) for word in words]
     return f" {last} ".join(filter(None, [", ".join(texts[:-1]), texts[-1]])) if texts else ""

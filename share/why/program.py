@@ -6,7 +6,8 @@ import re
 import subprocess
 from functools import lru_cache
 
-from strace.running import TOP, cant_run, program
+from scripts.command import too_large
+from tool.program import TOP, cant_run, program
 
 from .reason import Bad, NotFound
 
@@ -34,7 +35,7 @@ def judged(words: list[str], given: bytes) -> str:
     if status == BAD and found:
         raise Bad(f"line {found[1]} is bad ({found[2]}): credtrace-check says why")
     if status == LARGE:
-        raise Bad("it has more bytes or more lines than a script may have (docs/FORMATS.md)")
+        raise Bad(too_large(given))
     if status == OTHER and re.fullmatch(r"not legal \d+\n", text):
         entry = text.split()[2]
         raise Bad(f"the report is not the script's: it goes wrong at entry {entry}")

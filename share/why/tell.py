@@ -3,9 +3,11 @@
 from __future__ import annotations
 
 import textwrap
+from collections.abc import Sequence
 
-from .asking import Values
-from .books import Decision
+from . import linux
+from .values import Values
+from .records import Decision
 from .explain import Explainer
 from .journal import Journal
 from .names import CALLS, ERRORS, ID_CALLS, KINDS, SETS, cap_name, cap_number, flags, named
@@ -75,9 +77,10 @@ class Teller:
         full = self.explainer.full
         explained = self.explainer.explained(decisions)
         for decision, reasons in zip(decisions, explained, strict=True):
-            known = isinstance(reasons, list)
-            if known and not (full or decision.refused or self.changed(decision)):
-                continue
+            shows = full or decision.refused
+            if isinstance(reasons, list) and not (shows or self.changed(decision)):
+                if not any(it.source == linux.SOURCE for it in reasons):
+                    continue
             if decision.line != line:
                 line = decision.line
                 found.append(self.heading(line))
@@ -88,7 +91,11 @@ class Teller:
     def heading(self, line: int) -> str:
         """The number and the text of a line."""
         text = self.script.line(line)
-        return f"line {line}: {text if len(text) <= LONG else text[:LONG] + ' ...'}"
+        return f"{self.place(line)}: {text if len(text) <= LONG else text[:LONG] + ' ...'}"
+
+    def place(self, line: int) -> str:
+        """How a line is named."""
+        return f"line {line}"
 
     def whole_line(self, line: int, task: str | None = None) -> list[str]:
         """All that is told of one line, or of a task in it."""
@@ -193,7 +200,7 @@ class Teller:
         return found
 
 
-def parts(kind: str, words) -> list[tuple[str, str]]:
+def parts(kind: str, words: Sequence[str]) -> list[tuple[str, str]]:
     """The parts of a credential that a question tells, each with its name, as words."""
     if kind == IDS:
         names = [f"{which} {who} id" for who in ("user", "group") for which in KINDS]
@@ -206,7 +213,7 @@ def parts(kind: str, words) -> list[tuple[str, str]]:
     return [("securebits", flags(int(bits))), ("no_new_privs", no_new_privs)]
 
 
-def shown(kind: str, words) -> list[str]:
+def shown(kind: str, words: Sequence[str]) -> list[str]:
     """An answer in words."""
     if kind == IDS:
         users, groups = words[:4], words[4:]

@@ -71,17 +71,28 @@ static void see_whether_denied(void) {
   denied = same(said, "deny");
 }
 
+/* Ends before there is memory that the tasks share: a call that makes it was refused. */
+static void leave_without(const char *call, long error) {
+  static struct world empty;
+  world = &empty;
+  fails(call, error);
+  flush();
+  leave(1);
+}
+
 /* The memory that the tasks share. */
 static void share(void) {
   long size = sizeof(struct world), fd = call2(__NR_memfd_create, "world", 0);
-  if (fd >= 0 && fd != WORLD_FD) {
+  if (fd < 0)
+    leave_without("memfd_create(2)", fd);
+  if (fd != WORLD_FD) {
     call3(__NR_dup3, fd, WORLD_FD, 0);
     call1(__NR_close, fd);
   }
   call2(__NR_ftruncate, WORLD_FD, size);
   world = (struct world *)call6(__NR_mmap, 0, size, 3, 1, WORLD_FD, 0);
   if ((u64)world > (u64)-4096)
-    leave(5);
+    leave_without("mmap(2)", (long)world);
 }
 
 /* A line of the script: what stands before the calls has a letter, and ends the run if it fails. */

@@ -31,6 +31,9 @@ long ask_of(struct slot *slot, enum op op);
 void forget(struct slot *slot);
 void end_process(int process);
 
+/* Tells what couldn't be made before the calls; always false. */
+int fails(const char *what, long error);
+
 /* What stands before the script's calls: mounts, files, namespaces and first tasks. Each answers a
  * line of its own, and is false where that failed. */
 int make_file(struct text *text);

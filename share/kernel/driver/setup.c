@@ -13,10 +13,15 @@ enum { MANY_INITS = 512 };
 static char program[PROGRAM];
 static long program_size;
 
-/* A failure of what is made before the calls: the script can't be run. */
-static int fails(const char *what, long error) {
+/* A failure of what is made before the calls: the script can't be run. A task has left in the text
+ * which call of its was refused. */
+int fails(const char *what, long error) {
   say("failed ");
   say(what);
+  if (world->text[0]) {
+    say(": ");
+    say(world->text);
+  }
   say(" ");
   say_number((u64)-error);
   say("\n");
@@ -74,18 +79,18 @@ int mount_all(struct text *text) {
   static const char *const places[] = {"/tmp", "/mnt", "/media", "/opt", "/srv", "/var"};
   long image = next(text), found = mount("", "/", "", RECURSIVE | MS_PRIVATE, 0);
   if (found < 0)
-    return fails("private mounts", found);
+    return fails("mount(2) of /, MS_PRIVATE", found);
   found = -ENOENT_;
   for (size_t i = 0; i < sizeof places / sizeof *places && found < 0; i++)
     if ((found = mount("none", places[i], "tmpfs", 0, "mode=0755")) == 0)
       found = call1(__NR_chdir, places[i]);
   if (found < 0)
-    return fails("tmpfs", found);
+    return fails("mount(2) of a tmpfs", found);
   call1(__NR_umask, 0);
   folder("s"), folder("n"), folder("b"), folder("c");
   found = mount("none", "n", "tmpfs", MS_NOSUID, "mode=0755");
   if (found < 0)
-    return fails("nosuid", found);
+    return fails("mount(2) of a tmpfs, MS_NOSUID", found);
   if (image >= 0) {
     found = mount_image(image);
     if (found == 0)
@@ -93,7 +98,7 @@ int mount_all(struct text *text) {
     if (found == 0)
       found = mount("", "c", "", MS_BIND | MS_REMOUNT | MS_NOSUID, 0);
     if (found < 0)
-      return fails("image", found);
+      return fails("mount(2) of an image by a loop device", found);
   }
   program_size = read_all("/proc/self/exe", program, PROGRAM);
   return 1;
@@ -127,13 +132,18 @@ int make_file(struct text *text) {
   next_word(text, kind, sizeof kind);
   long owner = next(text), group = next(text), mode = next(text), executed = next(text);
   next_word(text, hex, sizeof hex);
+  const char *call = *kind == 'd' ? "mkdir(2)" : "open(2)";
   long found = *kind == 'd' ? folder(path) : write_file(path, (int)executed);
   if (found == 0)
-    found = call5(__NR_fchownat, AT_FDCWD, path, owner, group, 0);
+    call = "chown(2)", found = call5(__NR_fchownat, AT_FDCWD, path, owner, group, 0);
   if (found == 0)
-    found = call3(__NR_fchmodat, AT_FDCWD, path, mode);
-  if (found == 0 && *hex != '-')
+    call = "chmod(2)", found = call3(__NR_fchmodat, AT_FDCWD, path, mode);
+  if (found == 0 && *hex != '-') {
+    call = "setxattr(2)";
     found = call5(__NR_setxattr, path, "security.capability", bytes, from_hex(hex, bytes), 0);
+  }
+  if (found < 0)
+    put(world->text, call);
   return found < 0 ? fails(path, found) : 1;
 }
 
@@ -156,7 +166,7 @@ int make_space(struct text *text) {
   struct slot *above = parent < 0 ? &self : slot_of(SPACE + parent);
   struct slot *born = new_slot(SPACE + number);
   if (!above || !born)
-    return fails("namespace", -ENOENT_);
+    return fails("a namespace that nobody keeps", -ENOENT_);
   born->process = SPACE + number;
   above->args[0] = born - world->slots;
   long found;
@@ -172,13 +182,13 @@ int make_space(struct text *text) {
     found = ask_of(above, NAMESPACE);
   }
   if (found < 0)
-    return failed_space("namespace", found, born);
+    return failed_space("a user namespace", found, born);
   born->live = 1;
   born->root = root;
   born->args[0] = born->args[1] = root;
   born->args[2] = denied;
   found = ask_of(born, BECOME);
-  return found < 0 ? failed_space("keeper", found, born) : 1;
+  return found < 0 ? failed_space("the root of a user namespace", found, born) : 1;
 }
 
 static struct first {
@@ -208,7 +218,7 @@ int first_task(struct text *text) {
   by->args[0] = born - world->slots;
   long found = ask_of(by, other ? SPAWN : FORK);
   if (found < 0)
-    return fails("first task", found);
+    return fails("a first task: clone(2)", found);
   born->live = 1;
   first->slot = born;
   return 1;

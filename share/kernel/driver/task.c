@@ -155,11 +155,18 @@ static long start_keeper(struct slot *slot) {
   return pid < 0 ? pid : 0;
 }
 
+/* Leaves in the text which call was refused. */
+static long noted(const char *call, long found) {
+  if (found < 0)
+    put(world->text, call);
+  return found;
+}
+
 static long write_map(const char *name, const char *text) {
-  long fd = call4(__NR_openat, world->directory, name, 1, 0);
+  long fd = noted("open(2) of a map in /proc", call4(__NR_openat, world->directory, name, 1, 0));
   if (fd < 0)
     return fd;
-  long done = call3(__NR_write, fd, text, length(text));
+  long done = noted("write(2) of a map in /proc", call3(__NR_write, fd, text, length(text)));
   call1(__NR_close, fd);
   return done < 0 ? done : 0;
 }
@@ -169,7 +176,7 @@ static long write_map(const char *name, const char *text) {
 long make_namespace(struct slot *keeper) {
   struct slot *born = &world->slots[keeper->args[0]];
   born->turn = GO;
-  long found = start_keeper(keeper);
+  long found = noted("clone(2), CLONE_NEWUSER", start_keeper(keeper));
   if (found < 0)
     return found;
   if (!await(&born->turn, DONE, 20))
@@ -185,11 +192,11 @@ long make_namespace(struct slot *keeper) {
 /* The first task's credential, made by one with all capabilities. */
 static long become(const struct slot *slot) {
   u32 user = inside(slot, (u32)slot->args[0]), group = inside(slot, (u32)slot->args[1]);
-  long found = slot->args[2] ? 0 : call2(__NR_setgroups, 0, 0);
+  long found = slot->args[2] ? 0 : noted("setgroups(2)", call2(__NR_setgroups, 0, 0));
   if (found == 0)
-    found = call3(__NR_setresgid, group, group, group);
+    found = noted("setresgid(2)", call3(__NR_setresgid, group, group, group));
   if (found == 0)
-    found = call3(__NR_setresuid, user, user, user);
+    found = noted("setresuid(2)", call3(__NR_setresuid, user, user, user));
   /* A keeper writes the maps of its children, in their directories of /proc. */
   if (slot->number >= SPACE)
     call2(__NR_prctl, PR_SET_DUMPABLE, 1);

@@ -5,7 +5,7 @@ So it is seen that a sentence is compared with what was answered, and not made u
 
 from __future__ import annotations
 
-from ..books import Decision
+from ..records import Decision
 from ..program import TOP
 from ..reason import CAPS, Fault
 from ..script import Script

@@ -2,7 +2,7 @@
 
 from __future__ import annotations
 
-from ..asking import Values
+from ..values import Values
 from ..journal import Journal
 from ..reason import Fault, NotFound
 from ..script import Script

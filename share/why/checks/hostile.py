@@ -9,7 +9,7 @@ import tempfile
 from collections.abc import Iterator
 from pathlib import Path
 
-from ..program import TOP, program
+from tool.program import TOP, program
 
 TOOL = TOP / "share" / "credtrace-why"
 EXAMPLE = TOP / "examples" / "two-services.trace"
@@ -73,7 +73,7 @@ def faults() -> list[str]:
     return found
 
 
-def with_program(path: str, script: str) -> subprocess.CompletedProcess:
+def with_program(path: str, script: str) -> subprocess.CompletedProcess[bytes]:
     """Runs the tool with this program."""
     return subprocess.run(
         [str(TOOL), script], capture_output=True, check=False, env={**os.environ, "CREDTRACE": path}

@@ -5,7 +5,7 @@ from __future__ import annotations
 import contextlib
 import io
 
-from strace import compare
+from strace.compare import command
 
 from ..program import TOP
 
@@ -19,10 +19,10 @@ def faults() -> list[str]:
         given += ["--files", f"{log.parent}/files", "--start", f"{log.parent}/start"]
         out, err = io.StringIO(), io.StringIO()
         with contextlib.redirect_stdout(out), contextlib.redirect_stderr(err):
-            status = compare.main([*given, str(log)])
+            status = command.main([*given, str(log)])
         text = out.getvalue()
         stored = (log.parent / "comparison").read_text(encoding="latin-1")
-        wanted = compare.ENDS_BEFORE if "the script ends before it" in stored else compare.AGREES
+        wanted = command.ENDS_BEFORE if "the script ends before it" in stored else command.AGREES
         if status != wanted or not text.endswith(stored) or "is a fault of" in text:
             found.append(f"credtrace-compare --why of {log.parent.name}: status {status}")
     return found

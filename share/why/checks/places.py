@@ -40,6 +40,8 @@ def stands(part: str) -> bool | None:
         return place.partition(", ")[2] in read("docs/FORMATS.md")
     if place.startswith("docs/"):
         name, _, heading = place.partition(", ")
+        if not heading:
+            return (TOP / name).exists()
         return any(it.startswith(heading.strip('"')) for it in
                    re.findall(r"^## (.*)$", read(name), re.M))  # fmt: skip
     found = re.fullmatch(r"(\w+)\((\d)\), (.*)", place)
@@ -60,7 +62,7 @@ def read(name: str) -> str:
     return (TOP / name).read_text(encoding="utf-8")
 
 
-def faults(sources: Counter) -> tuple[str, list[str]]:
+def faults(sources: Counter[str]) -> tuple[str, list[str]]:
     """How many places there are, and those that don't exist."""
     parts = {part for source in sources for part in source.split("; ")}
     found = {part: stands(part) for part in parts}

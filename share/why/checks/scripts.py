@@ -10,7 +10,7 @@ from pathlib import Path
 import suite
 from program import LANE
 
-from ..books import Decision
+from ..records import Decision
 from ..program import TOP, report_of, runs
 from ..reason import Bad, Fault, NotFound
 from ..script import Script
@@ -38,8 +38,8 @@ class Sum:
     refusals: int = 0
     changes: int = 0
     faults: list[str] = field(default_factory=list)
-    sources: Counter = field(default_factory=Counter)
-    samples: dict[tuple, list[list[str]]] = field(default_factory=dict)
+    sources: Counter[str] = field(default_factory=Counter)
+    samples: dict[tuple[str, ...], list[list[str]]] = field(default_factory=dict)
 
     def __add__(self, other: Sum) -> Sum:
         """Both."""
@@ -113,7 +113,8 @@ def count(name: str, teller: Teller, found: Sum, samples: bool) -> None:
 def keep(name: str, teller: Teller, decision: Decision, found: Sum) -> None:
     """Keeps an answer of its kind, to be read."""
     words, told = decision.words, decision.told
-    call = words[2:3] if words[0] in ("begin", "change", "ask", "raw") else (decision.change or [])[:1]
+    own = words[2:3] if words[0] in ("begin", "change", "ask", "raw") else decision.change
+    call = (own or [])[:1]
     kept = found.samples.setdefault((words[0], *call, told[0]), [])
     if len(kept) < KEPT:
         kept.append([f"{name}:", *teller.told([decision])])

@@ -1,0 +1,10 @@
+# Completion of credtrace-compare-auditd in fish: put this file in ~/.config/fish/completions.
+complete -c credtrace-compare-auditd -o ts -x -d 'What happened from then on'
+complete -c credtrace-compare-auditd -o te -x -d 'What happened up to then'
+complete -c credtrace-compare-auditd -l pid -x -d 'This process and its descendants alone'
+complete -c credtrace-compare-auditd -l start -r -d 'What /proc said of the processes where the log begins'
+complete -c credtrace-compare-auditd -l lost -x -d 'How many records were lost, as auditctl -s says it'
+complete -c credtrace-compare-auditd -l names -d 'Write ids and sets as names'
+complete -c credtrace-compare-auditd -l json -d 'Write each finding as a line of JSON'
+complete -c credtrace-compare-auditd -l scripts -r -d 'Write the scripts, and one for each finding, there'
+complete -c credtrace-compare-auditd -l strict -d 'Status 1 also for calls missing and doubtful ones'
