@@ -3,18 +3,21 @@
 
     bench/compare.py PLAIN [RUNS [SEED]]
 
-PLAIN is plain.rs, built. Each script is a walk through the grammar, some with bad lines. A script on
-which the two differ is printed, and the status is then 1. No part of the checks.
+PLAIN is plain.rs, built. Each script is a walk through the grammar, some with bad lines. A script
+on which the two differ is printed, and the status is then 1. No part of the checks.
 """
 import pathlib
 import random
 import subprocess
 import sys
+from collections.abc import Callable
+from typing import Any
 
 PROVED = pathlib.Path(__file__).resolve().parent.parent / "bin" / "credtrace"
 
 IDS = ["0", "1", "1000", "1001", "-1", "4294967294"]
-CAPS = ["0", "6", "7", "8", "13", "40", "41", "4294967295", "CAP_SETUID", "CAP_NET_RAW", "CAP_CHOWN"]
+CAPS = ["0", "6", "7", "8", "13", "40", "41", "4294967295", "CAP_SETUID", "CAP_NET_RAW",
+        "CAP_CHOWN"]
 SETS = ["0", "1ffffffffff", "2000", "c0", "1c0", "FF", "1fffffffffe", "2021"]
 BITS = ["0", "1", "3", "4", "5", "16", "32", "48", "64", "192", "255", "256", "170", "85"]
 MODES = ["0644", "0755", "4755", "0000", "0077", "0604", "0640", "777", "0800"]
@@ -27,7 +30,11 @@ BAD = [
 ]
 
 
-def id_call(pick):
+# Chooses one of several.
+Pick = Callable[..., Any]
+
+
+def id_call(pick: Pick) -> str:
     name = pick(["setuid", "seteuid", "setgid", "setegid", "setreuid", "setregid", "setresuid",
                  "setresgid", "setgroups"])
     if name == "setgroups":
@@ -37,7 +44,7 @@ def id_call(pick):
     return " ".join([name] + [pick(IDS) for _ in range(count)])
 
 
-def change(pick):
+def change(pick: Pick) -> str:
     name = pick(["setfsuid", "setfsgid", "capset", "capdrop", "ambraise", "amblower", "ambclear",
                  "securebits", "keepcaps", "nonewprivs"])
     words = {
@@ -50,16 +57,16 @@ def change(pick):
     return " ".join([name] + words)
 
 
-def query(pick, names):
+def query(pick: Pick, names: list[str]) -> str:
     name = pick(["ids", "caps", "groups", "bits", "capable", "bset", "ambis", "check"])
     if name == "check":
         return f"check {pick(names or ['none'])} {pick(WANTS)}"
-    return f"{name} {pick(CAPS)}" if name in ("capable", "bset", "ambis") else name
+    return f"{name} {pick(CAPS)}" if name in ("capable", "bset", "ambis") else str(name)
 
 
-def line(pick, names, labels):
+def line(pick: Pick, names: list[str], labels: list[str]) -> str:
     h, t = pick(labels), pick(["t1"] * 19 + ["t2"])
-    return pick([
+    make: Callable[[], str] = pick([
         lambda: f"{t} {id_call(pick)}", lambda: f"{t} {id_call(pick)}",
         lambda: f"{t} {change(pick)}", lambda: f"{t} {change(pick)}",
         lambda: f"{t} {query(pick, names)}", lambda: f"ask {h} {query(pick, names)}",
@@ -67,29 +74,33 @@ def line(pick, names, labels):
         lambda: f"drop {h}", lambda: f"prepare {h} {t} {pick(labels)}",
         lambda: f"change {h} {change(pick)}", lambda: f"change {h} {change(pick)}",
         lambda: f"commit {h}", lambda: f"abort {h}", lambda: f"begin {t} {id_call(pick)}",
-        lambda: pick(["sweep", "", "# a comment", "   "]),
-    ])()
+        lambda: str(pick(["sweep", "", "# a comment", "   "])),
+    ])
+    return make()
 
 
-def script(seed):
+def script(seed: int) -> bytes:
     chance = random.Random(seed)
     pick = chance.choice
-    names = list(dict.fromkeys(pick(["a", "b", "prog", "x.y", "Z-1_"]) for _ in range(pick(range(5)))))
+    names = list(dict.fromkeys(pick(["a", "b", "prog", "x.y",
+                                     "Z-1_"]) for _ in range(pick(range(5)))))
     files = [f"file {name} {pick(['reg', 'dir'])} {pick(['0', '1', '1000'])} {pick(['0', '1000'])} "
              f"{pick(MODES[:7] * 9 + MODES)}"
-             + pick(["", "", "", " nosuid", f" caps {pick(ATTRS[:2] * 9 + ATTRS)}"]) for name in names]
+             + pick(["", "", "", " nosuid", f" caps {pick(ATTRS[:2] * 9 + ATTRS)}"])
+             for name in names]
     lines = files + [f"init t1 p1 {pick(['0', '0', '1000'])} {pick(['0', '1000'])} n0"]
     labels = [f"h{n}" for n in range(1, pick([4, 8, 40]))]
     lines += [line(pick, names, labels) for _ in range(pick([10, 60, 400, 1500]))]
     if pick([True, False, False]):
         for n in range(600):
-            lines += [f"take h{1000 + n} t1", pick(["t1 setresuid 0 0 0", f"t1 {change(pick)}", "# none"])]
+            lines += [f"take h{1000 + n} t1", pick(["t1 setresuid 0 0 0", f"t1 {change(pick)}",
+                                                    "# none"])]
     if pick([True] + [False] * 9):
         lines.insert(pick(range(len(lines))), pick(BAD))
     return ("\n".join(lines) + pick(["\n", "\n", ""])).encode()
 
 
-def main():
+def main() -> None:
     plain = sys.argv[1]
     runs = int(sys.argv[2]) if len(sys.argv) > 2 else 200
     seed = int(sys.argv[3]) if len(sys.argv) > 3 else 1
@@ -97,7 +108,7 @@ def main():
     for number in range(seed, seed + runs):
         text = script(number)
         ours, theirs = (subprocess.run([program, "run"], input=text, capture_output=True)
-                        for program in (PROVED, plain))
+                        for program in (str(PROVED), plain))
         if (ours.stdout, ours.returncode) != (theirs.stdout, theirs.returncode):
             sys.stdout.write(text.decode())
             sys.exit(f"seed {number}: the two differ")

@@ -10,6 +10,7 @@ import mmap
 import os
 import subprocess
 import sys
+from collections.abc import Callable
 from dataclasses import dataclass
 from pathlib import Path
 
@@ -39,14 +40,21 @@ class Ended:
 class Shim:
     """Runs the program with bench/faults.c loaded into it."""
 
-    def __init__(self):
+    def __init__(self) -> None:
         seen = DIR / "seen"
         seen.write_bytes(bytes(8))
         with seen.open("r+b") as file:
             self.seen = mmap.mmap(file.fileno(), 8)
         self.names = {"LD_PRELOAD": str(DIR / "faults.so"), "FAULTS_SEEN": str(seen)}
 
-    def run(self, words, given, of="memory", at=0, on=False):
+    def run(
+        self,
+        words: tuple[str, ...],
+        given: bytes,
+        of: str = "memory",
+        at: int = 0,
+        on: bool = False,
+    ) -> Ended:
         """A run in which this request is refused, and all after it if `on` is set."""
         self.seen[:] = bytes(8)
         names = {"FAULTS_OF": of, "FAULTS_AT": str(at), "FAULTS_ON": str(int(on))}
@@ -65,7 +73,7 @@ class Shim:
 SHIM = Shim()
 
 
-def difference(whole, ended):
+def difference(whole: bytes, ended: Ended) -> str:
     """How a run ended, and where what it wrote leaves the whole text."""
     pairs = zip(whole.splitlines(), ended.written.splitlines())
     lines = ((number, *pair) for number, pair in enumerate(pairs, 1) if pair[0] != pair[1])
@@ -74,7 +82,7 @@ def difference(whole, ended):
     return f"{told}; line {number} is {written!r}, not {wanted!r}" if number else told
 
 
-def judge_text(whole, ended):
+def judge_text(whole: Ended, ended: Ended) -> None:
     """What must come of words that write one text: all of it, or a prefix where memory ends."""
     if ended.status == MEMORY and whole.written.startswith(ended.written):
         return
@@ -82,7 +90,7 @@ def judge_text(whole, ended):
         raise Wrong(difference(whole.written, ended))
 
 
-def judge_lanes(script, ended):
+def judge_lanes(script: bytes, ended: Ended) -> None:
     """What must come of lanes, which may take turns in any way: a legal report, or whole entries of
     one where memory ends. An audit counts the beginning of an entry as none; but in these runs no
     write is cut short."""
@@ -96,7 +104,13 @@ def judge_lanes(script, ended):
         raise Wrong(f"status {ended.status}, {entries} entries; audit says: {told}")
 
 
-def refuse(name, words, given, judge, of="memory"):
+def refuse(
+    name: str,
+    words: tuple[str, ...],
+    given: bytes,
+    judge: Callable[[Ended], None],
+    of: str = "memory",
+) -> None:
     """Refuses each request of a run in turn, once and from there on, and says what came of it."""
     asked = max(SHIM.run(words, given, of).asked for _ in range(COUNTS))
     if not asked:
@@ -120,7 +134,9 @@ def refuse(name, words, given, judge, of="memory"):
           f"them after a part of the text; {2 * asked - ends} do without", flush=True)
 
 
-def refuse_text(name, words, given, status, written=None):
+def refuse_text(
+    name: str, words: tuple[str, ...], given: bytes, status: int, written: bytes | None = None
+) -> bytes:
     """Refuses memory to words that write one text, and returns that."""
     whole = SHIM.run(words, given)
     if whole.status != status or written not in (None, whole.written):
@@ -129,18 +145,18 @@ def refuse_text(name, words, given, status, written=None):
     return whole.written
 
 
-def refuse_lanes(name, script, of):
+def refuse_lanes(name: str, script: bytes, of: str) -> None:
     """Refuses memory, or threads, to the lanes of a script."""
     refuse(name, ("lanes",), script, lambda ended: judge_lanes(script, ended), of)
 
 
-def rounds(task, count):
+def rounds(task: int, count: int) -> bytes:
     """Lines of a task, so many that its entries fill a write and the next one is begun."""
     lines = "t{0} setgroups {1}\nt{0} keepcaps 1\nt{0} groups\n"
     return "".join(lines.format(task, number) for number in range(count)).encode()
 
 
-def main():
+def main() -> None:
     """Each command, on what asks for memory in most of its places; then the program's stored run,
     and lanes whose decisions take the most memory."""
     script, lanes = ((HERE / name).read_bytes() for name in ("faults.trace", "lanes.trace"))

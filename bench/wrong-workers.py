@@ -34,6 +34,10 @@ WORK = "crates/cred_work/src/work.rt"
 PROGRAM = "crates/cred_program/src/program.rt"
 
 
+# Each a file, what stands there once, and what stands there instead.
+Edits = tuple[tuple[str, str, str], ...]
+
+
 @dataclass(frozen=True)
 class Wrong:
     """A wrong body: what it does, in which files which text becomes which, and what the compiler
@@ -41,18 +45,18 @@ class Wrong:
 
     name: str
     does: str
-    edits: tuple
+    edits: Edits
     said: str = ""
 
 
 # What each is made of: the worker's parallel map, the decision, and what `lanes` calls.
 MAP = """\
-    let done = thread::map_vec(
+    let stopped = thread::map_vec(
         rt,
         turns.into_turns(),
         &|turn: Turn<K>| -> Result<Turn<K>, NoMemory>
             requires { turn.numbers.out ≡ None }
-            ensures { IfOk result (Finished K.script turn) }
+            ensures { IfOk result (HasStopped turn) }
         { run_lane(rt, alloc, kernel, gate, turn) },
     )?;
 """
@@ -78,12 +82,12 @@ USAGE = "/// Writes the usage line.\nfn tell_usage"
 USES_IO = "use cred_io::{Sink, Source};\n"
 
 
-def decides_as(body):
+def decides_as(body: str) -> Edits:
     """The decision, made otherwise."""
     return ((DECISION, ALL, body),)
 
 
-def passes_over(lent):
+def passes_over(lent: str) -> Edits:
     """The gate is passed over where this is lent."""
     line = "    /// The line whose event waits.\n"
     is_one = f"""\
@@ -102,18 +106,18 @@ def passes_over(lent):
 
 
 ONE_BY_ONE = """\
-    let mut done = Vec::new(alloc);
+    let mut stopped = Vec::new(alloc);
     for turn in turns.into_turns() {
-        done.push(run_lane(rt, alloc, kernel, gate, turn))?;
+        stopped.push(run_lane(rt, alloc, kernel, gate, turn))?;
     }
 """
 FROM_THE_LAST = """\
     let mut left = turns.into_turns();
-    let mut done = Vec::new(alloc);
+    let mut stopped = Vec::new(alloc);
     while let Some(turn) = left.pop() {
-        done.push(run_lane(rt, alloc, kernel, gate, turn))?;
+        stopped.push(run_lane(rt, alloc, kernel, gate, turn))?;
     }
-    done.reverse();
+    stopped.reverse();
 """
 # The lock is tried before the words are read, and kept until the decision is made.
 HELD = """\
@@ -219,8 +223,9 @@ BODIES = (
         "held-over",
         "the kernel tries its lock round each decision",
         (
-            (KERNEL, "    lock: Mutex<Locked<K>>,", "    pub(crate) lock: Mutex<Locked<K>>,"),
-            (DECISION, "    cells: &KernelCells<K>,\n", "    kernel: &crate::Kernel<K>,\n"),
+            (KERNEL, "    lock: Mutex<InPart<K, J>>,", "    pub(crate) lock: Mutex<InPart<K, J>>,"),
+            (DECISION, "decide<K: Name, G", "decide<K: Name, J: crate::Part, G"),
+            (DECISION, "    cells: &KernelCells<K>,\n", "    kernel: &crate::Kernel<K, J>,\n"),
             (DECISION, "use crate::cells::KernelCells;\n", ""),
             (DECISION, PERFORM, HELD),
             (WORKERS, CALLED, CALLED.replace("kernel.cells()", "kernel")),
@@ -234,7 +239,7 @@ BODIES = (
             (WORKERS, "TurnList, decide}", "TurnList}"),
             (WORKERS, "turn, step)?;", "turn, step, alloc, gate)?;"),
             (WORKERS, DECIDED, "            Step::Work(_) => (),\n"),
-            (WORKERS, "fn go_on<K: Name, R: Wait>(", "fn go_on<K: Name, G: Gate, R: Wait>("),
+            (WORKERS, "go_on<K: Name, J: Part, R", "go_on<K: Name, J: Part, G: Gate, R"),
             (WORKERS, "    last: Step,\n", "    last: Step,\n    alloc: Global,\n    gate: &G,\n"),
             (WORKERS, STEPPED, STEPPED_AND_DECIDED),
         ),
@@ -285,7 +290,7 @@ class Failure(Exception):
     """What went otherwise."""
 
 
-def copied(folder):
+def copied(folder: Path) -> None:
     """Copies the crates, with the tests of the meetings alone."""
     ignore = shutil.ignore_patterns("out", "must-fail", "proofs")
     shutil.copytree(TOP / "crates", folder / "crates", ignore=ignore)
@@ -303,7 +308,7 @@ def copied(folder):
     (tests / "mod.rt").write_text("\n".join(used) + "\n")
 
 
-def planted(folder, body):
+def planted(folder: Path, body: Wrong) -> None:
     """Puts a wrong body in place. What it stands in place of must stand there once."""
     for file, old, new in body.edits:
         text = (folder / file).read_text()
@@ -312,7 +317,7 @@ def planted(folder, body):
         (folder / file).write_text(text.replace(old, new))
 
 
-def held(folder, said):
+def held(folder: Path, said: str) -> str | None:
     """Holds the meetings: what is told of the one that fails, or nothing where all pass. Where the
     compiler is to say something, that is told."""
     words = ["rt", "try", "--test", "--seconds", str(LIMIT)]
@@ -336,7 +341,7 @@ def held(folder, said):
     return None if ended[1] == "ok" else ended[2]
 
 
-def tried(body):
+def tried(body: Wrong | None) -> str | None:
     """Holds the meetings with a wrong body, or with the crates as they are, in a copy."""
     with tempfile.TemporaryDirectory(prefix="wrong-workers-") as name:
         folder = Path(name)
@@ -346,7 +351,7 @@ def tried(body):
         return held(folder, body.said if body else "")
 
 
-def given():
+def given() -> argparse.Namespace:
     """The words of the command line."""
     parser = argparse.ArgumentParser(description="Tries wrong ways of running lanes.")
     parser.add_argument("--jobs", type=int, default=2, metavar="N", help="so many side by side")
@@ -359,13 +364,14 @@ def given():
     return words
 
 
-def main():
+def main() -> None:
     """Tries them, so many side by side."""
     words = given()
     bodies = [it for it in BODIES if not words.names or it.name in words.names]
     with ThreadPoolExecutor(max(words.jobs, 1)) as pool:
         # The crates as they are come first.
-        for body, told in zip([None, *bodies], pool.map(tried, [None, *bodies])):
+        every: list[Wrong | None] = [None, *bodies]
+        for body, told in zip(every, pool.map(tried, every)):
             name = f"{body.name} ({body.does})" if body else "the crates as they are"
             if (told is None) == (body is not None):
                 pool.shutdown(cancel_futures=True)
