@@ -7,12 +7,13 @@ import re
 import shutil
 import subprocess
 import sys
+from collections.abc import Callable
 from pathlib import Path
 
-from strace.forms import form_of
-from strace.hints import hints, words_of
-from strace.kinds import wrong_word
-from strace.names import to_names, to_script
+from scripts.forms import form_of
+from scripts.hints import hints, words_of
+from scripts.words import wrong_word
+from scripts.names import to_names, to_script
 
 TOP = Path(__file__).resolve().parents[2]
 
@@ -31,7 +32,11 @@ HINTS = [
     ("t1", "Word 2, the name of a call or of a question, lacks."),
     ("t01 caps", "Word 1, `t01`, is no T. Is t1 meant?"),
     ("t1 capset 0x2000 0 0", "Word 3, `0x2000`, is no SET. Is 2000 meant?"),
-    ("t1 securebits SECBIT_KEEP_CAPS", "is no NUM. Is 16 meant?"),
+    ("t1 securebits SECBIT_KEEP_CAPS", "script is a script, with names for sets: credtrace-names"),
+    ("t1 capset CAP_NET_RAW none nome", "Word 5, `nome`, is no SET. Is none meant?"),
+    ("t1 capset CAP_NET_RAW cap_nett_raw none",
+     "Word 4, `cap_nett_raw`, is no SET. Is CAP_NET_RAW"),
+    ("t1 setcap none", "Is capset, or setattr of a file, meant?"),
     ("t1 securebits 0x10", "is no NUM. Is 16 meant?"),
     ("t1 capable CAP_SYS_ADMN", "is no CAP. Is CAP_SYS_ADMIN meant?"),
     ("t1 exec /bin/svc", "Word 3, `/bin/svc`, is no NAME. Is svc meant?"),
@@ -43,7 +48,8 @@ HINTS = [
     ("lane 17", "Word 2, `17`, is no NUM of 1 to 16."),
     ("file a reg 0 0 0755 nosiud", "Word 7, `nosiud`, isn't `nosuid` or `caps`. Is nosuid meant?"),
     ("file a reg 0 0 0755 caps", "Word 8, the HEX, lacks."),
-    ("file a reg 0 0 0755 caps cap_kill+p", "Is 0000000220000000000000000000000000000000 meant?"),
+    ("file a reg 0 0 0755 caps cap_kill+p", "script is a script, with names for sets"),
+    ("file a reg 0 0 755 caps cap_kill+p", "Word 6, `755`, is no MODE. Is 0755 meant?"),
     ("t1 setuid 5#leaves", "A comment is a line of its own: its first word begins with `#`."),
     ("t1 setuid root # leaves", "Word 3, `root`, is no ARG. Is 0 meant?"),
     ("t1 setuid // leaves", "The line has 2 words. Word 3, the ARG, lacks."),
@@ -93,14 +99,14 @@ COMPARED = [
     (
         "line 6: pid 7 capget({version=3}) = 0: the kernel ok 2000 0 0 * *, the report ok 0 0 0 "
         "1ffffffffff 0 (line 3: t1 caps)",
-        "line 6: pid 7 capget({version=3}) = 0: the kernel ok CAP_NET_RAW none none * *, the report "
-        "ok none none none all none (line 3: t1 caps)",
+        "line 6: pid 7 capget({version=3}) = 0: the kernel ok CAP_NET_RAW none none * *, the "
+        "report ok none none none all none (line 3: t1 caps)",
     ),
     (
-        "line 9: pid 7 capset({version=3}, ..) = -1 EPERM: the kernel eperm, the report ok (line 4: "
-        "t1 capset 2000 0 0)",
-        "line 9: pid 7 capset({version=3}, ..) = -1 EPERM: the kernel eperm, the report ok (line 4: "
-        "t1 capset CAP_NET_RAW none none)",
+        "line 9: pid 7 capset({version=3}, ..) = -1 EPERM: the kernel eperm, the report ok "
+        "(line 4: t1 capset 2000 0 0)",
+        "line 9: pid 7 capset({version=3}, ..) = -1 EPERM: the kernel eperm, the report ok "
+        "(line 4: t1 capset CAP_NET_RAW none none)",
     ),
     (
         "version 1 target 0 perm 400 inh 0 eff 2000 v3 22050820000000000000000000000000",
@@ -111,7 +117,7 @@ COMPARED = [
 ]
 
 
-def wrong_hints(place: Path, told) -> str | None:
+def wrong_hints(place: Path, told: Callable[[str], str]) -> str | None:
     """What is told of a word that is wrong, and that nothing is guessed; `told` checks a script."""
     script = place / "script"
     for line, hint in [*HINTS, *((line, None) for line in UNGUESSED)]:
@@ -196,9 +202,9 @@ def wrong_places(place: Path, program: str) -> str | None:
     """The tools work through a symbolic link and from a copy, also of share/ alone."""
     copied = place / "copy"
     alone = place / "alone" / "share"
-    for folder in ("share/capabilities", "share/strace", "docs"):
-        shutil.copytree(TOP / folder, copied / folder)
-    for package in ("capabilities", "strace"):
+    for part in ("share/capabilities", "share/scripts", "share/tool", "docs"):
+        shutil.copytree(TOP / part, copied / part)
+    for package in ("capabilities", "scripts", "tool"):
         shutil.copytree(TOP / "share" / package, alone / package)
     for tool in sorted(path.name for path in (TOP / "share").glob("credtrace-*")):
         shutil.copy(TOP / "share" / tool, copied / "share")

@@ -2,8 +2,9 @@
 
 from __future__ import annotations
 
-from strace import enters, saying
-from strace.paths import NO_DESCRIPTOR, no_folder
+from strace.follow import namespace_entries
+from strace.script import credential_lines
+from strace.follow.paths import NO_DESCRIPTOR, no_folder
 
 # What is said of a log that is none, or not a whole one.
 BEGINS = '7 execve("/bin/sh", ["sh"], 0x7ffd /* 9 vars */) = 0\n'
@@ -68,7 +69,7 @@ ENDS = [
     (
         "a namespace that isn't known",
         f"{BEGINS}7 setns(5, CLONE_NEWUSER) = 0\n",
-        f"line 2: setns: {enters.UNKNOWN}",
+        f"line 2: setns: {namespace_entries.UNKNOWN}",
     ),
     (
         "a file that isn't listed",
@@ -91,7 +92,7 @@ BAD_LINES = [
     ("t1 setuid 5 6", "count", "T setuid ARG", "Word 4, `6`, is too many."),
     ("t1 setgroups -1", "word", "T setgroups ID ...", "Word 3, `-1`, is no ID."),
     ("t1 capset 0 0 zz", "word", "T capset SET SET SET", "Word 5, `zz`, is no SET."),
-    ("t1 capset CAP_NET_RAW none 0", "word", "T capset", "is no SET. Is 2000 meant?"),
+    ("t1 capset CAP_NET_RAW none zz", "word", "T capset", "Word 5, `zz`, is no SET."),
     ("t1 ambraise net_raw", "word", "T ambraise CAP", "is no CAP. Is CAP_NET_RAW meant?"),
     ("t1 setuid 05", "word", "T setuid ARG", "is no ARG. Is 5 meant?"),
     ("t1 setuid root", "word", "T setuid ARG", "Word 3, `root`, is no ARG."),
@@ -227,7 +228,8 @@ PLACES = [
     ("a mount in a user namespace of its own",
      CHILD_MOUNTS.format("").replace("(CLONE_NEWNS", "(CLONE_NEWUSER|CLONE_NEWNS")
      + TOOL.format("FOLDER/usr/bin/tool"), "0755"),
-    ("an id without a map", "7 unshare(CLONE_NEWUSER) = 0\n7 setuid(0) = 0\n", saying.NO_MAP),
+    ("an id without a map", "7 unshare(CLONE_NEWUSER) = 0\n7 setuid(0) = 0\n",
+     credential_lines.NO_MAP),
 ]
 
 # What the tools are told besides.

@@ -1,8 +1,9 @@
-"""Logs whose results differ from the report's, or that end early, with what has to be told of them."""
+"""Logs whose results differ from the report's, or that end early, with what is told of them."""
 
 from __future__ import annotations
 
-from strace import enters
+from capabilities import CAPABILITIES
+from strace.follow import namespace_entries
 from texts import BEGINS
 
 # Where strace began: as user 1000 without a capability, and as root with all.
@@ -58,9 +59,10 @@ SETS = ("7 capget({{version=_LINUX_CAPABILITY_VERSION_3, pid=0}}, "
 AMBIENT = "".join(f"Cap{name}:\t20\n" for name in ("Inh", "Prm", "Eff", "Amb"))
 AMBIENT = USER.split("CapInh")[0] + AMBIENT + "CapBnd:\t1ffffffffff\n"
 OWN = "a set-id bit in force makes a file privileged"
+ALL = "|".join(f"1<<CAP_{name}" for name in CAPABILITIES)
 
 # A log with where it begins, the status of credtrace-compare, what it says and what it mustn't.
-DIFFERENCES = [
+DIFFERENCES: list[tuple[str, str, str, int, list[str], list[str]]] = [
     ("a user's strace", USER, RUNS.format("/bin/su", 0) + IDS, 0,
      [TRACED, "root's strace leaves"], []),
     ("root's strace", ROOT, BEGINS + "7 setresuid(1000, 1000, 1000) = 0\n"
@@ -89,7 +91,8 @@ DIFFERENCES = [
     ("noexec", ROOT, BEGINS + RUNS.format("/mnt/tool", REFUSED), 0,
      ["the log: the mount of /mnt/tool has noexec, which refuses so (execve(2))"], ["directories"]),
     ("noexec, and a file that is read", ROOT, BEGINS
-     + '7 openat(AT_FDCWD, "/mnt/tool", O_RDONLY) = ' + REFUSED + "\n", 0, ["its directories are not"],
+     + '7 openat(AT_FDCWD, "/mnt/tool", O_RDONLY) = ' + REFUSED + "\n", 0,
+     ["its directories are not"],
      ["noexec, which"]),
     ("a folder that may not be searched", USER, BEGINS + RUNS.format("/home/tool", REFUSED), 0,
      ["its directories are not searched", "here: /home may not be searched"], ["noexec and"]),
@@ -166,7 +169,27 @@ DIFFERENCES = [
      ["agree: 2"], []),
     ("the user namespace of another namespace", ROOT, BEGINS
      + '7 openat(AT_FDCWD, "/proc/self/ns/user", O_RDONLY) = 3\n7 ioctl(4, NS_GET_USERNS) = 3\n'
-     "7 setns(3, 0) = 0\n", 3, [enters.UNKNOWN], []),
+     "7 setns(3, 0) = 0\n", 3, [namespace_entries.UNKNOWN_KIND], []),
+    ("a user namespace that is entered by its descriptor alone", ROOT, BEGINS
+     + "7 fork() = 8\n8 unshare(CLONE_NEWUSER) = 0\n"
+     '7 openat(AT_FDCWD, "/proc/8/ns/user", O_RDONLY) '
+     "= 3\n7 setns(3, 0) = 0\n7 getuid() = 65534\n7 capget({version=_LINUX_CAPABILITY_VERSION_3, "
+     "pid=0}, {effective=0x1ffffffffff, permitted=0x1ffffffffff, inheritable=0}) = 0\n".replace(
+         "0x1ffffffffff", ALL), 0, ["agree: 4"], []),
+    ("one of which only strace tells the kind", ROOT, BEGINS
+     + "7 setns(3<user:[4026532000]>, 0) = 0\n", 3, [namespace_entries.UNKNOWN], []),
+    ("a thread that changes while another asks about their process", ROOT, BEGINS
+     + "7 setreuid(1001, -1) = 0\n" + THREAD.format(8)
+     + "7 prctl(PR_GET_DUMPABLE <unfinished ...>\n"
+     "8 setresuid(-1, 1000, -1) = 0\n7 <... prctl resumed>) = 0 (SUID_DUMP_DISABLE)\n", 0,
+     ["the log: line 5 changes the process of t1 while this call is under way"], [NO_ROW]),
+    ("a change of a file that another process executes then", ROOT, BEGINS + "7 fork() = 8\n"
+     "7 capset({version=_LINUX_CAPABILITY_VERSION_3, pid=0}, {effective=1<<CAP_CHOWN, "
+     'permitted=1<<CAP_CHOWN, inheritable=0}) = 0\n7 chown("/bin/own", 5, -1) = ' + DENIED + "\n"
+     + RUNS.replace("7 ", "8 ").format("/bin/own", 0) + '8 chmod("/home/tool", 0700) = ' + DENIED
+     + "\n", 0, ["CAP_CHOWN is enough for a chown", "agree: 5 calls"], [NO_ROW]),
+    ("a network namespace", ROOT, BEGINS + "7 setns(3<net:[4026532000]>, 0) = 0\n7 getuid() = 0\n",
+     0, ["agree: 2"], []),
     ("looks into other tasks", ROOT, BEGINS + "7 fork() = 8\n7 fork() = 9\n8 setuid(5) = 0\n"
      "8 kcmp(8, 7, KCMP_VM, 0, 0) = -1 EPERM (Operation not permitted)\n"
      "8 ptrace(PTRACE_ATTACH, 9) = -1 EPERM (Operation not permitted)\n"
@@ -184,13 +207,15 @@ DIFFERENCES = [
      '7 openat(AT_FDCWD, "/proc/8/uid_map", O_RDWR) = 3\n7 write(3, "0 5 1\\n\\0", 7) = 7\n'
      "8 setuid(0) = 0\n8 getuid() = 0\n", 0, ["agree: 3"], []),
     ("a look into a task that executes a program meanwhile", ROOT, BEGINS + "7 setuid(1000) = 0\n"
-     '7 prctl(PR_SET_DUMPABLE, SUID_DUMP_USER) = 0\n7 fork() = 8\n8 execve("/bin/su", [], 0x7 /* 9 vars */ <unfinished ...>\n'
+     '7 prctl(PR_SET_DUMPABLE, SUID_DUMP_USER) = 0\n7 fork() = 8\n'
+     '8 execve("/bin/su", [], 0x7 /* 9 vars */ <unfinished ...>\n'
      "7 kcmp(7, 8, KCMP_VM, 0, 0) = -1 EPERM (Operation not permitted)\n"
      "8 <... execve resumed>) = 0\n8 geteuid() = 0\n", 0,
      ["agree: 6", "the log: line 5 changes t2 while this call is under way"],
      ["one rule for each look"]),
     ("a look into a task whose execve fails meanwhile", ROOT, BEGINS + "7 setuid(1000) = 0\n"
-     '7 prctl(PR_SET_DUMPABLE, SUID_DUMP_USER) = 0\n7 fork() = 8\n8 execve("/bin/gone", [], 0x7 /* 9 vars */ <unfinished ...>\n'
+     '7 prctl(PR_SET_DUMPABLE, SUID_DUMP_USER) = 0\n7 fork() = 8\n'
+     '8 execve("/bin/gone", [], 0x7 /* 9 vars */ <unfinished ...>\n'
      "7 kcmp(7, 8, KCMP_VM, 0, 0) = -1 EPERM (Operation not permitted)\n"
      "8 <... execve resumed>) = -1 ENOENT (No such file or directory)\n8 geteuid() = 1000\n", 0,
      ["one rule for each look"], ["while this call is under way"]),
@@ -310,7 +335,8 @@ DIFFERENCES = [
      '7 openat(AT_FDCWD, "/proc/self/uid_map", O_WRONLY) = 3\n7 write(3, "0 0 1", 5) = 5\n'
      "7 getresuid([0], [0], [0]) = 0\n", 0, ["agree: 5"], []),
     ("a saved id without it", ROOT, BEGINS
-     + "7 prctl(PR_SET_SECUREBITS, SECBIT_NO_SETUID_FIXUP) = 0\n7 setresuid(0, 100, 100) = 0\n7 capset({version=_LINUX_CAPABILITY_VERSION_3, pid=0}, "
+     + "7 prctl(PR_SET_SECUREBITS, SECBIT_NO_SETUID_FIXUP) = 0\n7 setresuid(0, 100, 100) = 0\n"
+     "7 capset({version=_LINUX_CAPABILITY_VERSION_3, pid=0}, "
      "{effective=0, permitted=0, inheritable=0}) = 0\n7 setuid(0) = 0\n"
      "7 unshare(CLONE_NEWUSER) = 0\n"
      '7 openat(AT_FDCWD, "/proc/self/uid_map", O_WRONLY) = 3\n7 write(3, "5 100 1", 7) = 7\n'

@@ -3,7 +3,10 @@
 from __future__ import annotations
 
 import gzip
+import lzma
 import re
+import shutil
+import subprocess
 from pathlib import Path
 
 TABLE = """% time     seconds  usecs/call     calls    errors syscall
@@ -16,6 +19,28 @@ def packed(log: str, place: Path) -> list[str]:
     """As by -o '| gzip'."""
     (place / "log.gz").write_bytes(gzip.compress(log.encode("latin-1")))
     return [str(place / "log.gz")]
+
+
+def packed_by_xz(log: str, place: Path) -> list[str]:
+    """As by -o '| xz'."""
+    (place / "log.xz").write_bytes(lzma.compress(log.encode("latin-1")))
+    return [str(place / "log.xz")]
+
+
+def packed_by_zstd(log: str, place: Path) -> list[str] | None:
+    """As by -o '| zstd', where that is installed."""
+    if shutil.which("zstd") is None:
+        return None
+    given = log.encode("latin-1")
+    done = subprocess.run(["zstd", "-cq"], input=given, stdout=subprocess.PIPE, check=True)
+    (place / "log.zst").write_bytes(done.stdout)
+    return [str(place / "log.zst")]
+
+
+def with_returns(log: str, place: Path) -> list[str]:
+    """As a log that went through another system: its lines end by a carriage return too."""
+    (place / "log").write_bytes(log.encode("latin-1").replace(b"\n", b"\r\n"))
+    return [str(place / "log")]
 
 
 def with_table(log: str, place: Path) -> list[str]:
@@ -49,4 +74,6 @@ def without_translation(log: str, place: Path) -> list[str] | None:
     return [str(place / "log")]
 
 
-WAYS = (packed, with_table, in_parts, without_translation)
+WAYS = (
+    packed, packed_by_xz, packed_by_zstd, with_returns, with_table, in_parts, without_translation,
+)  # fmt: skip

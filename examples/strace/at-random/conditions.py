@@ -7,10 +7,13 @@ from __future__ import annotations
 
 import re
 from collections.abc import Callable
+from contextlib import suppress
 from pathlib import Path
 
-from strace import filerows, rows
-from strace.sources import merged
+from linux import rows
+from strace.compare.rows import LOG
+from strace.log.lines import BadLog
+from strace.log.sources import merged
 
 # What is told of a difference: the call, the kernel's answer, the report's, the script's line.
 DIFFERENCE = re.compile(
@@ -48,11 +51,11 @@ CONDITIONS: dict[str, Condition] = {
     rows.DENIED_GROUPS: since_is(r"setgroups", SPACE),
     rows.DIRECTORIES: lambda found, log, since, user: found["kernel"] == "eacces",
     rows.NOT_MODE: lambda found, log, since, user: found["kernel"] in ("eperm", "eacces"),
-    rows.COUNTS: has(SPACE),
+    rows.CAPABILITY: has(SPACE),
     rows.CONTINUE: lambda found, log, since, user: "SIGCONT) = 0" in found["call"],
     rows.NO_NEW_PRIVS_FILE: has(NEW_PRIVS),
     rows.NO_NEW_PRIVS_IDS: has(NEW_PRIVS),
-    rows.UNMAPPED_OWNER: since_is(r"exec ", SPACE),
+    rows.UNMAPPED_FILE: since_is(r"exec ", SPACE),
     rows.SET_ID: since_is(r"exec ", RAISE),
     rows.PLAIN_FILE: since_is(r"exec ", r"setfsgid", RAISE),
     rows.TRACED: lambda found, log, since, user: user,
@@ -60,22 +63,24 @@ CONDITIONS: dict[str, Condition] = {
     rows.OUTER: has(SPACE),
     rows.LOOKS: lambda *_: False,
     rows.EXECVE_FLAG: since_is(r"dumped|ptrace|exec ", r"execve"),
-    filerows.KEEPS: since_is(r"chown \S+ -1 -1"),
-    filerows.ENOUGH: lambda found, log, since, user: " chown " in found["text"],
-    filerows.TAKES: since_is(r"chown"),
-    filerows.STAYS: since_is(r"chown"),
-    filerows.ALONE: has(SPACE),
-    filerows.NO_ATTRIBUTE: lambda found, log, since, user: "EINVAL" in found["call"] or (
+    rows.CHOWN_KEEPS: since_is(r"chown \S+ -1 -1"),
+    rows.CHOWN_ENOUGH: lambda found, log, since, user: " chown " in found["text"],
+    rows.CHOWN_TAKES: since_is(r"chown"),
+    rows.CHOWN_STAYS: since_is(r"chown"),
+    rows.MAPPED_FILE: has(SPACE),
+    rows.NO_ATTRIBUTE: lambda found, log, since, user: "EINVAL" in found["call"] or (
         found["kernel"] == "einval" and " setattr " in found["text"]),
-    filerows.OTHER_ATTRIBUTE: lambda found, log, since, user: found["kernel"] == "einval",
-    filerows.AS_WRITTEN: since_is(r"setattr", SPACE),
+    rows.OTHER_ATTRIBUTE: lambda found, log, since, user: found["kernel"] == "einval",
+    rows.AS_WRITTEN: since_is(r"setattr", SPACE),
 }
 
 
 def text_of(logs: list[str]) -> str:
     """All of the log, of one in parts in the order of its times."""
-    if len(logs) > 1:
-        return "\n".join(merged(logs))
+    with suppress(BadLog):
+        if len(logs) > 1:
+            return "\n".join(merged(logs))
+    # Of one that is cut, as where strace was killed, the parts one behind the other.
     return "".join(Path(log).read_text(encoding="latin-1") for log in logs)
 
 
@@ -100,11 +105,11 @@ def unfounded(out: str, logs: list[str], user: bool) -> str | None:
 
 def holds(found: re.Match[str], reason: str, log: str, since: str, user: bool) -> bool:
     """Whether a reason holds."""
-    if reason.startswith(rows.LOG):
+    if reason.startswith(LOG):
         return is_told(reason, log)
     told = re.sub(r"^docs/LINUX\.md(, it may be)?: ", "", reason)
-    for begins, condition in CONDITIONS.items():
-        if told.startswith(begins):
+    for key, condition in CONDITIONS.items():
+        if told.startswith(rows.row(key)[0]):
             return condition(found, log, since, user)
     return False
 
@@ -113,7 +118,8 @@ def is_told(reason: str, log: str) -> bool:
     """Whether the log itself says so, at the line that is named."""
     if "has noexec" in reason:
         return "MS_NOEXEC" in log
-    line = int(re.search(r" line (\d+)", reason)[1])
-    there = [*log.split("\n"), ""][line - 1 : line]
+    named = re.search(r" line (\d+)", reason)
+    line = int(named[1]) if named else 0
+    there = [*log.split("\n"), ""][line - 1 : line] if line else []
     changes = "is under way" in reason and re.search(r"set\w+\(|exec|prctl|capset", "".join(there))
     return bool(changes) or bool(re.search(r"SECCOMP_\w*MODE_FILTER", "".join(there)))
