@@ -125,8 +125,8 @@ ExecvesByTheRule script journal =
     (state_at script journal (k + 1)))
     × IsFileOf script journal k x.prepared.label (Exec x.place) (Some x.file))
 
--- An entry leaves as many files as there were, and a file changes only by one of chown(2), chmod(2),
--- or setxattr(2) or removexattr(2) of its attribute, on that file, that isn't refused.
+-- An entry leaves as many files as there were, and a file changes only by one of chown(2),
+-- chmod(2), or setxattr(2) or removexattr(2) of its attribute, on that file, that isn't refused.
 pub record FilesStay (script : Script) (journal : List Entry) : Type 0 where
   pub many : (k : ℕ) → IfSome (slice_get journal k) (λ _.
       length (state_at script journal (k + 1)).infos ≡ length (state_at script journal k).infos)

@@ -1,6 +1,6 @@
 //! The steps of the threads that wait in a broadcast (nptl(7)).
-ghost use Rattle.std.specs.Prelude.{◌≡◌, ◌≢◌, ◌<◌, [], length, slice_get, slice_set, Ok, Some, IfOk};
-ghost use Rattle.std.specs.Prelude.{IfSome, MatchOption, OnOk, OnErr};
+ghost use Rattle.std.specs.Prelude.{◌≡◌, ◌≢◌, ◌<◌, [], length, slice_get, slice_set, Ok, Some};
+ghost use Rattle.std.specs.Prelude.{IfOk, IfSome, MatchOption, OnOk, OnErr};
 ghost use Rattle.std.specs.Option.{IsSome, IsSomeAnd};
 ghost use Rattle.cred_ids.specs.Limits.{SLOTS};
 ghost use Rattle.cred_event.specs.declared.answer.Answer.TheVariants.{Aborted, NoBroadcast};
