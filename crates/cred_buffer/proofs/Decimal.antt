@@ -7,8 +7,8 @@ use Rattle.std.proofs.lemmas.Bool.{cases_lt}
 use Rattle.std.proofs.lemmas.Fmt.{decimal_digit, decimal_step}
 
 -- a number of two digits
-pub two_digits : (n : ℕ) → 10 ≤ n → n < 100 → decimal n ≡ (48 + n / 10) ∷ (48 + n % 10) ∷ []
-two_digits n many small = rw (decimal_step n many (omega arith), decimal_digit (n / 10) (omega arith)) refl
+pub of_two : (n : ℕ) → 10 ≤ n → n < 100 → decimal n ≡ (48 + n / 10) ∷ (48 + n % 10) ∷ []
+of_two n many small = rw (decimal_step n many (omega arith), decimal_digit (n / 10) (omega arith)) refl
 
 -- what stands before the last of some digits
 pub before_last : (digits front : List ℕ) (len x : ℕ) → len ≤ length digits → take len digits ≡ front ++ x ∷ [] → take (len - 1) digits ≡ front

@@ -24,8 +24,8 @@ one_digit n end buf small some within =
     rw (drop-set buf (end - 1) (48 + n % 10) (omega arith), e, same, decimal_digit n small)
 
 -- a number of two digits
-pub two_digits : (n : ℕ) → 10 ≤ n → n < 100 → decimal n ≡ (48 + n / 10) ∷ (48 + n % 10) ∷ []
-two_digits n many small = rw (decimal_step n many (omega arith), decimal_digit (n / 10) (omega arith)) refl
+pub of_two : (n : ℕ) → 10 ≤ n → n < 100 → decimal n ≡ (48 + n / 10) ∷ (48 + n % 10) ∷ []
+of_two n many small = rw (decimal_step n many (omega arith), decimal_digit (n / 10) (omega arith)) refl
 
 -- the digits of a number before its last one
 pub more_digits : (n tens end r : ℕ) (buf out : List ℕ) → 10 ≤ n → n < 2 ^ 64 → tens ≡ n / 10 → 0 < end → end ≤ length buf
