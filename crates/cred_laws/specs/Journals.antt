@@ -15,7 +15,7 @@ use Rattle.cred_event.specs.declared.event.Change.{Change}
 use Rattle.cred_event.specs.declared.event.Change.TheVariants.{Exec}
 use Rattle.cred_event.specs.declared.event.Event.TheVariants.{Release, Begin, CloseFile, Chown}
 use Rattle.cred_event.specs.declared.event.Event.TheVariants.{Raw}
-use Rattle.cred_event.specs.declared.event.Mode.{Mode}
+use Rattle.cred_record.specs.declared.mode.Mode.{Mode}
 use Rattle.cred_event.specs.declared.entry.Entry.{Entry}
 use Rattle.cred_model.specs.Script.{Script}
 use Rattle.cred_model.specs.State.{State, Task, Prepared, Numbered, numbered, task_of, broadcast_in}

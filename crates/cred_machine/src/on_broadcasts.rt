@@ -16,13 +16,13 @@ ghost use Rattle.cred_machine.specs.Room.{IsCurrentOf, begun, sealed_for, swept_
 use crate::slots::{Marks, Room, defer_left, live_slots, make_room};
 use crate::state::{State, overridden};
 use cred_decide::refusal_answer;
+use cred_dumpable::differs;
 use cred_event::{AbortCause, Answer, Named};
 use cred_ids::NoMemory;
 use cred_plain::casts::{
     act, broadcast_of, broadcast_place, drop_broadcast, open_broadcast, open_in,
 };
 use cred_plain::{Cast, Ending};
-use cred_ptrace::differs;
 use cred_record::{Cred, IdCall, Refusal, copy};
 use cred_setid::apply_to;
 use std::alloc::Global;

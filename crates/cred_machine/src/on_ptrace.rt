@@ -3,8 +3,10 @@ ghost use Rattle.cred_model.specs.Like.{Gives};
 ghost use Rattle.cred_model.specs.TaskEvents.{by_dumpable, by_dumped, by_ptrace};
 
 use crate::state::State;
-use cred_event::{Answer, Mode, Told};
-use cred_ptrace::{flag_of_value, may_trace};
+use cred_access::may_trace;
+use cred_dumpable::flag_of_value;
+use cred_event::{Answer, Told};
+use cred_record::Mode;
 use cred_script::Script;
 
 impl State {

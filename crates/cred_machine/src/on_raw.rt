@@ -10,10 +10,10 @@ use crate::on_broadcasts::call_on_copy;
 use crate::slots::Room;
 use crate::state::{State, overridden};
 use cred_decide::refusal_answer;
+use cred_dumpable::differs;
 use cred_event::Answer;
 use cred_ids::NoMemory;
 use cred_plain::casts::open_in;
-use cred_ptrace::differs;
 use cred_record::{Cred, IdCall};
 
 impl State {

@@ -31,15 +31,14 @@ mod returns;
 mod tasks;
 mod traces;
 
-use cred_attr::FileTable;
 use cred_cast::Casts;
-use cred_declared::{declared_files, root_of};
+use cred_declared::{FileTable, declared_files, root_of};
+use cred_dumpable::Dump;
 use cred_event::{Answer, Event, Side};
 use cred_files::Files;
 use cred_hold::{Cells, Master, make};
 use cred_ids::NoMemory;
 use cred_procs::Procs;
-use cred_ptrace::Dump;
 use cred_record::Cred;
 use cred_script::Script;
 use cred_slots::Slots;

@@ -21,11 +21,11 @@ ghost use Rattle.cred_state.specs.Replacements.{replacement, HasValidSets};
 
 use crate::state::State;
 use cred_cast::{Casts, LastStep};
+use cred_dumpable::differs_by;
 use cred_event::{AbortCause, Answer};
 use cred_hold::{Cells, Master};
 use cred_ids::{Groups, NoMemory};
 use cred_packed::Head;
-use cred_ptrace::differs_by;
 use cred_record::Refusal;
 use cred_setid::{IdParts, apply_parts};
 use cred_tables::{Numbered, drop_all, renew_in, seal_next, sweep_at};

@@ -5,16 +5,18 @@ ghost use Rattle.std.specs.Option.{option_map};
 ghost use Rattle.cred_model.specs.Like.{Gives};
 ghost use Rattle.cred_model.specs.State.{Changed, numbered};
 ghost use Rattle.cred_model.specs.TaskEvents.{by_dumpable, by_dumped, by_ptrace};
-ghost use Rattle.cred_ptrace.specs.Seen.{IsSeen};
+ghost use Rattle.cred_access.specs.Seen.{IsSeen};
 ghost use Rattle.cred_tables.specs.Kept.{cred_under, seen_in, IsInUse};
 ghost use Rattle.cred_tables.specs.Prepared.{changed_of};
 ghost use Rattle.cred_state.specs.Flags.{differs_from};
 
 use crate::state::State;
-use cred_event::{Answer, Mode, Told};
+use cred_access::{Seen, may_trace_by};
+use cred_dumpable::{differs_by, flag_of_value};
+use cred_event::{Answer, Told};
 use cred_hold::Cells;
 use cred_ids::Ids4;
-use cred_ptrace::{Seen, differs_by, flag_of_value, may_trace_by};
+use cred_record::Mode;
 use cred_script::Script;
 use cred_tables::Numbered;
 

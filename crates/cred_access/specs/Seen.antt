@@ -1,7 +1,7 @@
 -- What the check of one task's access to another looks at of a credential.
 use Rattle.std.specs.Prelude.{◌≡◌}
 use Rattle.cred_record.specs.Credential.{Credential}
-use Rattle.cred_ptrace.specs.declared.check.Seen.{Seen}
+use Rattle.cred_access.specs.declared.trace.Seen.{Seen}
 
 -- the ids, the permitted and the effective set, and the user namespace
 abbrev pub seen_of : Credential → Seen

@@ -4,8 +4,8 @@ use Rattle.cred_ids.specs.declared.id.Ids4.{Ids4}
 use Rattle.cred_caps.specs.Caps.{Caps, is_within}
 use Rattle.cred_caps.specs.Numbers.{SYS_PTRACE}
 use Rattle.cred_record.specs.Credential.{Credential, capable}
-use Rattle.cred_event.specs.declared.event.Mode.{Mode}
-use Rattle.cred_event.specs.declared.event.Mode.TheVariants.{Fs, Real}
+use Rattle.cred_record.specs.declared.mode.Mode.{Mode}
+use Rattle.cred_record.specs.declared.mode.Mode.TheVariants.{Fs, Real}
 
 -- the user id that a task asks by: with PTRACE_MODE_FSCREDS its filesystem user id, and with
 -- PTRACE_MODE_REALCREDS its real one (step 2)

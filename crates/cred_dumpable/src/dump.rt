@@ -5,7 +5,7 @@ ghost use Rattle.cred_model.specs.Dumpable.{flag_in, flagged, is_dumpable, set_f
 ghost use Rattle.cred_model.specs.Dumpable.{with_process_flag};
 ghost use Rattle.cred_model.specs.Dumpable.{flag_of_value, flags_by, renewed, without_flag};
 
-use crate::check::is_gain;
+use crate::changes::is_gain;
 use cred_event::Change;
 use cred_ids::{NoMemory, limits};
 use cred_record::Gains;

@@ -1,17 +1,15 @@
 //! The check of one task's access to another.
 ghost use Rattle.std.specs.Prelude.{◌≡◌};
 ghost use Rattle.cred_record.specs.Credential.{Credential, capable};
-ghost use Rattle.cred_model.specs.Ptrace.{asking_user, asking_group, asking_caps, are_all};
-ghost use Rattle.cred_model.specs.Ptrace.{has_asking_ids, has_sys_ptrace, is_no_stronger};
+ghost use Rattle.cred_rules.specs.Ptrace.{asking_user, asking_group, asking_caps, are_all};
+ghost use Rattle.cred_rules.specs.Ptrace.{has_asking_ids, has_sys_ptrace, is_no_stronger};
 ghost use Rattle.cred_caps.specs.Numbers.{SYS_PTRACE};
-ghost use Rattle.cred_model.specs.Ptrace.{may_trace};
-ghost use Rattle.cred_model.specs.Dumpable.{differs, is_gain};
-ghost use Rattle.cred_ptrace.specs.Seen.{IsSeen, seen_of};
+ghost use Rattle.cred_rules.specs.Ptrace.{may_trace};
+ghost use Rattle.cred_access.specs.Seen.{IsSeen, seen_of};
 
 use cred_caps::{Cap, CapSet};
-use cred_event::Mode;
 use cred_ids::{Id, Ids4};
-use cred_record::{Cred, Gains};
+use cred_record::{Cred, Mode};
 
 /// What the check looks at of a credential.
 #[derive(Clone, Copy)]
@@ -144,32 +142,4 @@ fn is_no_stronger(from: &Seen, to: &Seen, mode: Mode) -> bool
         → result ≡ is_no_stronger asker target mode }
 {
     from.ns == to.ns && to.perm.within(&from.caps(mode))
-}
-
-/// Whether an effective or a filesystem id of the new credential, of the user or of the group, is
-/// another than the old one's: then the task's process is no longer dumpable (prctl(2)). Other
-/// changes leave that flag.
-pub fn differs(old: &Cred, new: &Cred) -> bool
-    ensures { result ≡ differs old.now new.now }
-{
-    differs_by(&old.uid, &old.gid, &new.uid, &new.gid)
-}
-
-/// The same, by the ids of the two.
-#[inline(always)]
-pub fn differs_by(old_uid: &Ids4, old_gid: &Ids4, new_uid: &Ids4, new_gid: &Ids4) -> bool
-    ensures { (old new : Credential) → old.uid ≡ old_uid.now → old.gid ≡ old_gid.now
-        → new.uid ≡ new_uid.now → new.gid ≡ new_gid.now → result ≡ differs old new }
-{
-    !(old_uid.effective == new_uid.effective
-        && old_uid.fs == new_uid.fs
-        && old_gid.effective == new_gid.effective
-        && old_gid.fs == new_gid.fs)
-}
-
-/// Whether an execve added to the permitted set: then the task's process isn't dumpable.
-pub fn is_gain(gains: &Gains) -> bool
-    ensures { result ≡ is_gain gains.now }
-{
-    !(gains.file.bits() == 0 && gains.inherit.bits() == 0 && gains.root.bits() == 0)
 }
