@@ -27,7 +27,7 @@ impl State {
     /// `NoMemory` if an allocation of the credential's groups or of the file's attribute fails: the
     /// state is as it was.
     #[inline(never)]
-    pub(super) fn chown(
+    pub(crate) fn chown(
         &mut self,
         cells: &Cells,
         hold: u32,
@@ -60,7 +60,7 @@ impl State {
     ///
     /// `NoMemory` as `chown` has it: the state is as it was.
     #[inline(never)]
-    pub(super) fn chmod(
+    pub(crate) fn chmod(
         &mut self,
         cells: &Cells,
         hold: u32,
@@ -95,7 +95,7 @@ impl State {
     /// `NoMemory` if an allocation of the credential's groups or of the attribute fails: the state
     /// is as it was.
     #[inline(never)]
-    pub(super) fn set_attr(
+    pub(crate) fn set_attr(
         &mut self,
         cells: &Cells,
         hold: u32,
@@ -124,7 +124,7 @@ impl State {
     /// How a file stands (stat(2)). A task may ask that by any credential; `NoHold` where the label
     /// holds none.
     #[inline(never)]
-    pub(super) fn stat(&self, hold: u32, place: u32) -> Answer
+    pub(crate) fn stat(&self, hold: u32, place: u32) -> Answer
         ensures { Gives self.now.state (by_stat self.now.state hold place) result self.now.state }
     {
         let Some(_) = self.held(hold) else {

@@ -71,7 +71,7 @@ impl State {
 
     /// What an id call looks at of the credential that was found. Something refers to it.
     #[inline(always)]
-    pub(super) fn read_parts(&mut self, cells: &Cells, found: Numbered) -> IdParts
+    pub(crate) fn read_parts(&mut self, cells: &Cells, found: Numbered) -> IdParts
         requires own { self.old.words.id ≡ cells.now }
         requires found { numbered self.old.state.creds found.number
             ≡ Some (seen_in self.old.state.creds found) }

@@ -4,7 +4,7 @@ use Rattle.cred_record.specs.Credential.{Credential}
 use Rattle.cred_model.specs.State.{Broadcast}
 use Rattle.cred_model.proofs.Places.{if_some}
 use Rattle.cred_cast.specs.Broadcasts.{MakesOf}
-use Rattle.cred_state.proofs.state.acts.keep_step.Goals as goal
+use Rattle.cred_state.proofs.state.call_events.acts.keep_step.Goals as goal
 
 pub keep_at-requires : goal.keep_at-requires
 keep_at-requires c =

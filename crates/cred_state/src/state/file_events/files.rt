@@ -2,21 +2,23 @@
 ghost use Rattle.std.specs.Prelude.{◌≡◌, ◌<◌, ◌∷◌, ◌++◌, [], ℕ, None, length, IfOk, IfSome};
 ghost use Rattle.std.specs.Prelude.{if◌then◌else◌, MatchResult, OnErr, OnOk};
 ghost use Rattle.cred_event.specs.declared.answer.Answer.TheVariants.{Done, Eacces};
-ghost use Rattle.std.specs.Option.{option_map};
 ghost use Rattle.cred_ids.specs.Limits.{OPEN_FILES};
 ghost use Rattle.cred_record.specs.declared.want.Want.{Want as Wanted};
 ghost use Rattle.cred_model.specs.Answers.{checked};
-ghost use Rattle.cred_model.specs.State.{held_by, info_of, open_of, opener_of};
+ghost use Rattle.cred_model.specs.State.{held_by, info_of, open_of};
 ghost use Rattle.cred_model.specs.Like.{Gives};
-ghost use Rattle.cred_model.specs.LabelEvents.{by_take_file};
 ghost use Rattle.cred_model.specs.FileEvents.{by_close, by_open};
-ghost use Rattle.cred_tables.specs.Kept.{seen_in, IsInUse};
+ghost use Rattle.cred_tables.specs.Kept.{IsInUse};
 ghost use Rattle.cred_state.specs.TokensOut.{MayOpen};
+ghost use Rattle.cred_sound.specs.Sound.{IsSound};
+ghost use Rattle.cred_tables.specs.Out.{AreHome, AreOut};
 
 use crate::state::State;
-use cred_event::{Answer, Counted, Named};
+use cred_event::{Answer, Counted, Event, Named};
+use cred_hold::Cells;
 use cred_ids::NoMemory;
-use cred_tables::Numbered;
+use cred_record::Want;
+use cred_work::{NoPause, may_open};
 
 impl State {
     /// The number of the credential that a label holds, where the file may be opened under the
@@ -87,30 +89,44 @@ impl State {
         Answer::Done
     }
 
-    /// The label takes hold of the credential that the open file was opened by. The refusals leave
-    /// the state.
+    /// Opens a file (open(2)). Whether it may be opened so is decided on the hold that is lent for
+    /// it in this call.
     ///
     /// # Errors
     ///
-    /// `NoMemory` if an allocation of room for the hold or for its reference fails: the state is as
-    /// it was.
-    pub fn take_file(&mut self, label: u32, fd: u32) -> Result<Answer, NoMemory>
+    /// `NoMemory` if an allocation of groups, or of room for the file or for its reference, fails:
+    /// the state is as it was.
+    pub(crate) fn open(
+        &mut self,
+        cells: &Cells,
+        label: u32,
+        file: u32,
+        want: Want,
+        fd: u32,
+    ) -> Result<Answer, NoMemory>
+        requires own { self.old.words.id ≡ cells.now }
+        requires out { AreOut self.old.state self.old.words.out }
+        requires home { AreHome (Event.OpenFile label file want fd) self.old.words.out }
+        requires sound { IsSound self.old.state }
         ensures ok { IfOk result (λ answer.
-            Gives self.old.state (by_take_file self.old.state label fd) answer self.new.state) }
+            Gives self.old.state (by_open self.old.state label file want fd) answer
+            self.new.state) }
         ensures err { OnErr result (self.new ≡ self.old) }
         ensures words { self.new.words ≡ self.old.words }
     {
-        let Some(Numbered { number, slot }) = self.opener(fd) else {
-            return Ok(Answer::Ebadf);
+        let Some(found) = self.held(label) else {
+            return Ok(Answer::NoHold(label));
         };
-        self.take_hold(label, number, slot)
-    }
-
-    /// The credential that the file of a descriptor was opened by.
-    fn opener(&self, fd: u32) -> Option<Numbered>
-        ensures { option_map (seen_in self.now.state.creds) result ≡ opener_of self.now.state fd }
-    {
-        let number = self.files.opener(fd)?;
-        self.sealed_at(number)
+        let mut hold = self.lend_found(cells, label, found);
+        let may = may_open(
+            self.alloc,
+            cells,
+            &NoPause,
+            &mut hold,
+            self.infos().file(file),
+            want,
+        );
+        self.take_hold_back(cells, hold);
+        self.open_as(label, file, fd, may?)
     }
 }

@@ -1,14 +1,13 @@
 //! The events on prepared labels.
 ghost use Rattle.std.specs.Prelude.{◌≡◌, Ok, Some, IfOk, IfSome, MatchResult, OnErr};
 ghost use Rattle.std.specs.Option.{option_map, option_and_then};
-ghost use Rattle.cred_model.specs.State.{begun_by, numbered, prepared_of, task_of};
-ghost use Rattle.cred_model.specs.State.{Changed};
+ghost use Rattle.cred_model.specs.State.{begun_by, numbered, prepared_of, task_of, Changed};
 ghost use Rattle.cred_model.specs.Broadcasts.{not_busy};
 ghost use Rattle.cred_model.specs.Moves.{not_overridden};
 ghost use Rattle.cred_model.specs.Like.{Gives, GivesLike};
 ghost use Rattle.cred_sound.specs.Sound.{IsSound};
 ghost use Rattle.cred_event.specs.declared.event.Event.TheVariants.{Commit};
-ghost use Rattle.cred_model.specs.LabelEvents.{by_abort, by_commit, by_prepare};
+ghost use Rattle.cred_model.specs.LabelEvents.{by_abort, by_commit, by_prepare, by_alter};
 ghost use Rattle.cred_tables.specs.Kept.{seen_in};
 ghost use Rattle.cred_tables.specs.Prepared.{changed_of, IsReady};
 ghost use Rattle.cred_tables.specs.Out.{AreHome, AreOut};
@@ -17,12 +16,15 @@ ghost use Rattle.cred_state.specs.Flags.{differs_from};
 
 use crate::state::State;
 use cred_decide::committed_by;
-use cred_event::{Answer, Change, Counted, Named};
+use cred_declared::{chain_of, executed_file};
+use cred_event::{Answer, Change, Counted, Event, Named};
 use cred_hold::Cells;
 use cred_ids::{NoMemory, limits};
+use cred_script::Script;
 use cred_tables::{
     GivenUp, Numbered, Preparation, Ready, drop_all, drop_broadcast, end_with, seal_kept,
 };
+use cred_work::alter;
 
 impl State {
     /// The label prepares a new credential for the task, based on the one that the hold has, and
@@ -221,5 +223,52 @@ impl State {
         let preparation = self.prepared.get(label)?;
         let base = preparation.base;
         self.sealed_at(base)
+    }
+
+    /// Changes what a label prepares. What the change makes is decided on the base, and put by the
+    /// writer of the slot that the label keeps, which are lent for it in this call.
+    ///
+    /// # Errors
+    ///
+    /// `NoMemory` if an allocation of a credential fails: the state is as it was.
+    pub fn alter(
+        &mut self,
+        cells: &Cells,
+        script: &Script,
+        label: u32,
+        change: Change,
+    ) -> Result<Answer, NoMemory>
+        requires own { self.old.words.id ≡ cells.now }
+        requires out { AreOut self.old.state self.old.words.out }
+        requires home { AreHome (Event.Alter label change) self.old.words.out }
+        requires sound { IsSound self.old.state }
+        ensures ok { IfOk result (λ answer.
+            GivesLike self.old.state (by_alter script.now self.old.state label change) answer
+            self.new.state) }
+        ensures err { OnErr result (self.new ≡ self.old) }
+        ensures words { self.new.words ≡ self.old.words }
+    {
+        let ns = self.change_ns(cells, label, change);
+        let Some((mut base, mut writer)) = self.lend_kept(cells, label) else {
+            return Ok(Answer::NoPrepared(label));
+        };
+        let file = executed_file(self.infos(), change);
+        let chain = chain_of(script, ns);
+        match alter(
+            self.alloc,
+            cells,
+            &mut base,
+            &change,
+            file,
+            chain,
+            &mut writer,
+        ) {
+            Ok(made) => Ok(self.enter_alter(cells, base, writer, change, made)),
+            Err(NoMemory) => {
+                self.put_earlier(cells, label, writer);
+                self.take_hold_back(cells, base);
+                Err(NoMemory)
+            }
+        }
     }
 }

@@ -6,7 +6,7 @@ ghost use Rattle.cred_model.specs.Moves.{in_slot, table_full};
 ghost use Rattle.cred_model.specs.CallEvents.{by_raw};
 ghost use Rattle.cred_machine.specs.Room.{called_alone};
 
-use crate::on_broadcasts::call_on_copy;
+use crate::call_events::broadcasts::call_on_copy;
 use crate::slots::Room;
 use crate::state::{State, overridden};
 use cred_decide::refusal_answer;

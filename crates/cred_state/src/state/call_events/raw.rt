@@ -34,7 +34,7 @@ impl State {
     /// `NoMemory` if an allocation of the groups that are set or of room for a reference fails: the
     /// state is as it was.
     #[inline(never)]
-    pub(super) fn raw(
+    pub(crate) fn raw(
         &mut self,
         cells: &Cells,
         task: u32,

@@ -4,7 +4,7 @@ use Rattle.cred_attr.specs.Exactly.{AnswersExactly}
 use Rattle.cred_record.specs.File.{IsMode}
 use Rattle.cred_rules.specs.Files.{set_attr}
 use Rattle.cred_machine.proofs.Written.{made_by, made_exactly, no_other}
-use Rattle.cred_machine.proofs.on_infos.changed.Goals as goal
+use Rattle.cred_machine.proofs.file_events.calls.changed.Goals as goal
 
 pub returns-in-Chown : goal.returns-in-Chown
 returns-in-Chown c = rw c.in-Chown.is (made_by _ _ c.chown.ensures)

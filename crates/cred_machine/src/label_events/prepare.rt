@@ -1,137 +1,27 @@
-//! The events on holds and prepared labels.
+//! The events on prepared labels.
 ghost use Rattle.std.specs.Prelude.{◌≡◌, ◌<◌, length, slice_get, IfOk, IfSome, OnOk, OnErr};
 ghost use Rattle.cred_model.specs.Like.{Gives};
-ghost use Rattle.cred_model.specs.TaskEvents.{by_signal};
-ghost use Rattle.cred_model.specs.LabelEvents.{by_abort, by_alter, by_ask, by_commit, by_prepare};
-ghost use Rattle.cred_model.specs.LabelEvents.{by_release, by_take, take_hold};
+ghost use Rattle.cred_model.specs.LabelEvents.{by_abort, by_alter, by_commit, by_prepare};
 ghost use Rattle.cred_model.specs.Moves.{given_up};
 ghost use Rattle.cred_model.specs.Broadcasts.{broadcasts_left};
-ghost use Rattle.cred_model.specs.State.{numbered_in};
 ghost use Rattle.cred_sound.specs.Sound.{IsSound};
-ghost use Rattle.cred_machine.specs.Labels.{CanCommit, Commits};
-ghost use Rattle.cred_machine.specs.Labels.{IsOnCurrent};
+ghost use Rattle.cred_machine.specs.Labels.{CanCommit, Commits, IsOnCurrent};
 ghost use Rattle.cred_machine.specs.Slots.{AreLive};
 ghost use Rattle.cred_plain.specs.Tasks.{ending_of};
 
 use crate::slots::{Marks, Room, live_slots, make_room, sweep_if};
 use crate::state::{State, differs_from, overridden};
-use cred_access::may_signal;
-use cred_decide::{Made, change as change_of, committed_by, reply};
-use cred_declared::{asked_file, chain_of, executed_file};
-use cred_event::{Answer, Change, Counted, Named, Query, Side};
+use cred_decide::{Made, change as change_of, committed_by};
+use cred_declared::{chain_of, executed_file};
+use cred_event::{Answer, Change, Counted, Named};
 use cred_ids::{NoMemory, limits};
 use cred_plain::casts::{begun_by, drop_broadcast};
-use cred_plain::labels::{change_at, hold_of, hold_place, prepared_of, prepared_place};
-use cred_plain::{Cast, Changed, Ending, Hold, Numbered, Prepared};
+use cred_plain::labels::{change_at, hold_of, prepared_of, prepared_place};
+use cred_plain::{Cast, Changed, Ending, Numbered, Prepared};
 use cred_record::copy;
 use cred_script::Script;
 
 impl State {
-    /// The label takes hold of the credential that the task acts with, or of the one that it is
-    /// acted on by. The refusals leave the state.
-    ///
-    /// # Errors
-    ///
-    /// `NoMemory` if an allocation fails: the state is as it was.
-    pub(crate) fn take(&mut self, label: u32, task: u32, side: Side) -> Result<Answer, NoMemory>
-        ensures ok { IfOk result (λ answer.
-            Gives self.old (by_take self.old label task side) answer self.new) }
-        ensures err { OnErr result (self.new ≡ self.old) }
-    {
-        let Some(Numbered { number, slot, .. }) = self.credential(task, side) else {
-            return Ok(Answer::NoTask(task));
-        };
-        self.take_hold(label, number, slot)
-    }
-
-    /// The label takes hold of the credential of this number, which stands in this slot.
-    ///
-    /// # Errors
-    ///
-    /// `NoMemory` if an allocation fails: the state is as it was.
-    pub(crate) fn take_hold(
-        &mut self,
-        label: u32,
-        number: u64,
-        slot: u32,
-    ) -> Result<Answer, NoMemory>
-        ensures ok { IfOk result (λ answer.
-            Gives self.old (take_hold self.old label (numbered_in number slot)) answer self.new) }
-        ensures err { OnErr result (self.new ≡ self.old) }
-    {
-        if self.has_label(label) {
-            return Ok(Answer::Exists {
-                what: Named::Label,
-                number: label,
-            });
-        }
-        if self.holds.len() >= limits::HOLDS {
-            return Ok(Answer::TooMany(Counted::Holds));
-        }
-        self.holds.push(Hold { label, number })?;
-        Ok(Answer::Sealed { cred: number, slot })
-    }
-
-    /// The label drops its hold: the reference to its credential is given up. `NoHold` leaves the
-    /// state.
-    ///
-    /// # Errors
-    ///
-    /// `NoMemory` if an allocation fails: the state is as it was.
-    pub(crate) fn release(&mut self, label: u32) -> Result<Answer, NoMemory>
-        ensures ok { IfOk result (λ answer.
-            Gives self.old (by_release self.old label) answer self.new) }
-        ensures err { OnErr result (self.new ≡ self.old) }
-    {
-        let Some(place) = hold_place(&self.holds, label) else {
-            return Ok(Answer::NoHold(label));
-        };
-        let number = self.holds[place].number;
-        self.deferred.push(number)?;
-        self.holds.remove(place);
-        Ok(Answer::Done)
-    }
-
-    /// A question about the credential that the label holds, and about the file that it names as
-    /// that stands.
-    ///
-    /// # Errors
-    ///
-    /// `NoMemory` if an allocation of the answer fails.
-    pub(crate) fn ask(&self, label: u32, query: Query) -> Result<Answer, NoMemory>
-        ensures { IfOk result (λ answer.
-            Gives self.now (by_ask self.now label query) answer self.now) }
-    {
-        match self.held(label) {
-            Some(held) => reply(self.alloc, asked_file(&self.infos, query), held.cred, query),
-            None => Ok(Answer::NoHold(label)),
-        }
-    }
-
-    /// May a task signal another, where one label holds the sender's credential and another the
-    /// target's (kill(2))?
-    pub(crate) fn signal(&self, from: u32, hold: u32, to: u32, target: u32) -> Answer
-        ensures { Gives self.now (by_signal self.now from hold to target) result self.now }
-    {
-        let Some(sender) = self.tasks.get(from) else {
-            return Answer::NoTask(from);
-        };
-        let Some(receiver) = self.tasks.get(to) else {
-            return Answer::NoTask(to);
-        };
-        let Some(own) = self.held(hold) else {
-            return Answer::NoHold(hold);
-        };
-        let Some(other) = self.held(target) else {
-            return Answer::NoHold(target);
-        };
-        if may_signal(own.cred, other.cred, sender.process == receiver.process) {
-            Answer::Done
-        } else {
-            Answer::Eperm
-        }
-    }
-
     /// The label prepares a new credential for the task, based on the one that the hold has, and
     /// keeps the slot that the new one will stand in. `NoTask`, `Busy`, `NoHold`, `Exists` and
     /// `TooMany` leave the state; `TableFull` leaves it swept. Which slots are live may be known

@@ -110,7 +110,7 @@ impl State {
 
     /// Whether an effective or a filesystem id, of the user or of the group, is another one in what
     /// the label prepared than in its task's current credential.
-    pub(super) fn changes_ids(&mut self, cells: &Cells, label: u32, task: u32) -> bool
+    pub(crate) fn changes_ids(&mut self, cells: &Cells, label: u32, task: u32) -> bool
         requires own { self.old.words.id ≡ cells.now }
         ensures other { (last : Changed)
             → changed_of self.old.state.prepared label ≡ Some last

@@ -1,11 +1,7 @@
 //! The events on open files.
 ghost use Rattle.std.specs.Prelude.{◌≡◌, IfOk, OnErr};
-ghost use Rattle.std.specs.Option.{option_map};
-ghost use Rattle.cred_model.specs.State.{opener_of};
 ghost use Rattle.cred_model.specs.Like.{Gives};
-ghost use Rattle.cred_model.specs.LabelEvents.{by_take_file};
 ghost use Rattle.cred_model.specs.FileEvents.{by_close, by_open};
-ghost use Rattle.cred_plain.specs.Creds.{seen_numbered};
 
 use crate::state::State;
 use cred_declared::may_open;
@@ -77,30 +73,5 @@ impl State {
         self.deferred.push(opener)?;
         self.files.remove(place);
         Ok(Answer::Done)
-    }
-
-    /// The label takes hold of the credential that the open file was opened by. The refusals leave
-    /// the state.
-    ///
-    /// # Errors
-    ///
-    /// `NoMemory` if an allocation fails: the state is as it was.
-    pub(crate) fn take_file(&mut self, label: u32, fd: u32) -> Result<Answer, NoMemory>
-        ensures ok { IfOk result (λ answer.
-            Gives self.old (by_take_file self.old label fd) answer self.new) }
-        ensures err { OnErr result (self.new ≡ self.old) }
-    {
-        let Some(Numbered { number, slot, .. }) = self.opener(fd) else {
-            return Ok(Answer::Ebadf);
-        };
-        self.take_hold(label, number, slot)
-    }
-
-    /// The credential that the file of a descriptor was opened by.
-    fn opener(&self, fd: u32) -> Option<Numbered<'_>>
-        ensures { option_map seen_numbered result ≡ opener_of self.now fd }
-    {
-        let file = open_of(&self.files, fd)?;
-        self.creds.get(file.opener)
     }
 }
