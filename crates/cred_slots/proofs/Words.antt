@@ -8,7 +8,7 @@ use Rattle.std.proofs.lemmas.Nat.Bits.{bit_at_or, bit_at-lt}
 use Rattle.std.proofs.lemmas.Bool.{cases_lt, cases_eq}
 use Rattle.std.proofs.Common.{length-set, get_or-set_same, get_or-set_other}
 use Rattle.cred_ids.specs.Limits.{SLOTS, slots}
-use Rattle.cred_slots.specs.Flags.{WORDS, flag_at, flags_of, in_either, first_unset}
+use Rattle.cred_slots.specs.Flags.{FLAG_WORDS, flag_at, flags_of, in_either, first_unset}
 
 pub length-flags_of : (words : List ℕ) → length (flags_of words) ≡ SLOTS
 unfolding flags_of slots
@@ -28,7 +28,7 @@ one_is : (flag : Bool) (bit : ℕ) → bit ≡ cond flag 1 0 → (bit == 1) ≡ 
 one_is true bit e = rw e refl
 one_is false bit e = rw e refl
 
-put_at : (words : List ℕ) (slot word : ℕ) (flag : Bool) → length words ≡ WORDS → slot < SLOTS → bit_at word (slot % 64) ≡ cond flag 1 0
+put_at : (words : List ℕ) (slot word : ℕ) (flag : Bool) → length words ≡ FLAG_WORDS → slot < SLOTS → bit_at word (slot % 64) ≡ cond flag 1 0
     → ((i : ℕ) → i < 64 → i ≢ slot % 64 → bit_at word i ≡ bit_at (get_or words (slot / 64) 0) i)
     → (k : ℕ) → k < SLOTS → get_or (slice_set (flags_of words) slot flag) k false ≡ flag_at (slice_set words (slot / 64) word) k
 put_at words slot word flag four within same others k h =
@@ -48,7 +48,7 @@ put_at words slot word flag four within same others k h =
           ])))
     ]
 
-pub flags_of-put : (words : List ℕ) (slot word : ℕ) (flag : Bool) → length words ≡ WORDS → slot < SLOTS → bit_at word (slot % 64) ≡ cond flag 1 0
+pub flags_of-put : (words : List ℕ) (slot word : ℕ) (flag : Bool) → length words ≡ FLAG_WORDS → slot < SLOTS → bit_at word (slot % 64) ≡ cond flag 1 0
     → ((i : ℕ) → i < 64 → i ≢ slot % 64 → bit_at word i ≡ bit_at (get_or words (slot / 64) 0) i)
     → flags_of (slice_set words (slot / 64) word) ≡ slice_set (flags_of words) slot flag
 flags_of-put words slot word flag four within same others =
@@ -127,7 +127,7 @@ set_below words index bit within before here k h = elim (cases_lt k (index * 64)
       rw (word, here (k % 64) (omega arith)) refl
 ]
 
-pub first_unset-at : (words : List ℕ) (index bit : ℕ) → index < WORDS → bit < 64 → ((k : ℕ) → k < index * 64 → flag_at words k ≡ true)
+pub first_unset-at : (words : List ℕ) (index bit : ℕ) → index < FLAG_WORDS → bit < 64 → ((k : ℕ) → k < index * 64 → flag_at words k ≡ true)
     → bit_at (get_or words index 0) bit ≡ 0 → ((i : ℕ) → i < bit → bit_at (get_or words index 0) i ≡ 1)
     → first_unset (flags_of words) ≡ Some (index * 64 + bit)
 first_unset-at words index bit word within before here lower =

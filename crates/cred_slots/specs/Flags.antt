@@ -6,8 +6,8 @@ use Rattle.std.specs.Int.{bit_at}
 use Rattle.cred_ids.specs.Limits.{SLOTS, slots}
 
 -- how many words that are, of 64 flags each
-abbrev pub WORDS : ℕ
-WORDS = SLOTS / 64
+abbrev pub FLAG_WORDS : ℕ
+FLAG_WORDS = SLOTS / 64
 
 -- The flag of a slot is one bit of the word that it falls in.
 abbrev pub flag_at : List ℕ → ℕ → Bool
