@@ -25,7 +25,7 @@ use Rattle.cred_event.specs.declared.answer.AbortCause.TheVariants as cause
 use Rattle.cred_model.specs.FileChanges.{changed_by}
 use Rattle.cred_model.specs.Script.{Script, chain_of, root_of, reaches}
 use Rattle.cred_model.specs.Dumpable.{differs, flag_of_value, flags_begun, flags_committed, is_dumpable, renewed}
-use Rattle.cred_model.specs.Ptrace.{may_trace}
+use Rattle.cred_rules.specs.Ptrace.{may_trace}
 use Rattle.cred_model.specs.State.{State, Task, Broadcast, Prepared, Changed, Numbered, credential_of, opener_of, numbered, task_of, broadcast_of, broadcast_in}
 use Rattle.cred_model.specs.State.{begun_by}
 use Rattle.cred_model.specs.State.{open_of, hold_of, prepared_of, held_by, info_of}

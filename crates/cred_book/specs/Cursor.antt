@@ -31,8 +31,8 @@ abbrev pub steps_left : Recorded → ℕ
 steps_left book =
     sum_by (left_at book.script) book.cursors + waiting (replay book.script book.journal)
 
--- how many entries a journal has, at most: 152 for each of 20,000 lines, for 17 lanes, as all of the
--- lines may be of any of them
+-- how many entries a journal has, at most: 152 for each of 20,000 lines, for 17 lanes, as all lines
+-- may be of any of them
 abbrev pub MOST_STEPS : ℕ
 MOST_STEPS = 51680000
 

@@ -118,8 +118,8 @@ impl Casts {
         &self.broadcasts[place].call
     }
 
-    /// The step that was made last in the broadcast at a place, if it is kept: what the call made of
-    /// one credential, as it does of each.
+    /// The step that was made last in the broadcast at a place, if it is kept: what the call made
+    /// of one credential, as it does of each.
     #[inline(always)]
     pub fn last_at(&self, place: usize) -> Option<&LastStep>
         requires { place < length self.now }

@@ -8,9 +8,9 @@ ghost use Rattle.cred_event.specs.declared.event.Side.TheVariants.{Subjective, O
 ghost use Rattle.cred_model.specs.Course as spec;
 
 use cred_copies::copy_event;
-use cred_event::{Change, Content, Event, FileCall, Mode, Query, Side, Stage};
+use cred_event::{Change, Content, Event, FileCall, Query, Side, Stage};
 use cred_ids::{NoMemory, limits};
-use cred_record::{Want, copy_attr};
+use cred_record::{Mode, Want, copy_attr};
 
 /// Whether a line with this content makes events.
 pub(crate) fn makes_events(content: &Content) -> bool

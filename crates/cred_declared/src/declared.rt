@@ -7,8 +7,8 @@ ghost use Rattle.cred_model.specs.Named.{change_files, event_files, query_files}
 ghost use Rattle.cred_model.specs.Script.{chain_of, infos_of, root_of};
 ghost use Rattle.cred_model.specs.State.{info_of};
 
+use crate::table::FileTable;
 use cred_access::may;
-use cred_attr::FileTable;
 use cred_event::{Answer, Change, Event, Query};
 use cred_ids::{Id, NoMemory};
 use cred_record::{Cred, FileInfo, Want};

@@ -22,7 +22,7 @@ use Rattle.cred_event.specs.declared.answer.Answer.TheVariants as answer
 use Rattle.cred_event.specs.declared.event.Change.{Change}
 use Rattle.cred_event.specs.declared.event.Change.TheVariants as change
 use Rattle.cred_event.specs.declared.event.Event.TheVariants as event
-use Rattle.cred_event.specs.declared.event.Mode.{Mode}
+use Rattle.cred_record.specs.declared.mode.Mode.{Mode}
 use Rattle.cred_event.specs.declared.event.Query.{Query}
 use Rattle.cred_event.specs.declared.event.Query.TheVariants as query
 use Rattle.cred_event.specs.declared.event.Side.{Side}

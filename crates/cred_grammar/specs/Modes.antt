@@ -2,8 +2,8 @@
 -- `real`, with its real ids and its permitted set (ptrace(2), "Ptrace access mode checking").
 use Rattle.std.specs.Prelude.{ℕ, List, [], ◌∷◌, codes}
 use Rattle.std.specs.declared.option.Option.{Option}
-use Rattle.cred_event.specs.declared.event.Mode.{Mode}
-use Rattle.cred_event.specs.declared.event.Mode.TheVariants.{Fs, Real}
+use Rattle.cred_record.specs.declared.mode.Mode.{Mode}
+use Rattle.cred_record.specs.declared.mode.Mode.TheVariants.{Fs, Real}
 use Rattle.cred_spelling.specs.Table.{named}
 
 unfoldable pub look_modes : List (List ℕ × Mode)

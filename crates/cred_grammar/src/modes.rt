@@ -1,7 +1,7 @@
 //! How a task asks to look into another.
 ghost use Rattle.cred_grammar.specs.Modes as spec;
 
-use cred_event::Mode;
+use cred_record::Mode;
 use cred_spelling::{Spelling, named};
 
 /// `fs` or `real` (ptrace(2), "Ptrace access mode checking").

@@ -173,8 +173,8 @@ impl Master {
         known_ns(load_sealed::<1>(&mut self.inner, cells, slot, NAMESPACE))
     }
 
-    /// The words of the credential of a sealed slot. `None` exactly where it has groups. It takes no
-    /// memory. What is lent stays.
+    /// The words of the credential of a sealed slot. `None` exactly where it has groups. It takes
+    /// no memory. What is lent stays.
     pub fn head(&mut self, cells: &Cells, slot: u32) -> Option<Head>
         requires own { self.old.id ≡ cells.now }
         requires sealed { IsSealed self.old.slots slot }

@@ -1,5 +1,6 @@
 //! What stands under the lock, and the steps that are made there.
-ghost use Rattle.std.specs.Prelude.{◌≡◌, ◌<◌, ◌++◌, ◌^◌, true, None, Some, IfOk, IfErr, OnOk, OnErr};
+ghost use Rattle.std.specs.Prelude.{◌≡◌, ◌<◌, ◌++◌, ◌^◌, true, None, Some};
+ghost use Rattle.std.specs.Prelude.{IfOk, IfErr, OnOk, OnErr};
 ghost use Rattle.cred_model.specs.Journal.{IsLegal};
 ghost use Rattle.cred_work.specs.DecidedWorks.{IsDecided};
 ghost use Rattle.cred_book.specs.Parts.{BeginsLegal};

@@ -16,7 +16,7 @@ use Rattle.cred_event.specs.declared.answer.Answer.{Answer}
 use Rattle.cred_event.specs.declared.answer.Answer.TheVariants.{Done, Executed, Sealed}
 use Rattle.cred_event.specs.declared.event.Change.TheVariants.{Exec}
 use Rattle.cred_event.specs.declared.event.Event.TheVariants.{Release, CloseFile, Chown, Raw}
-use Rattle.cred_event.specs.declared.event.Mode.{Mode}
+use Rattle.cred_record.specs.declared.mode.Mode.{Mode}
 use Rattle.cred_event.specs.declared.entry.Entry.{Entry}
 use Rattle.cred_model.specs.Script.{Script}
 use Rattle.cred_model.specs.State.{State, SealedCred, Task, Numbered, numbered, task_of, current_of, opener_of, held_by}

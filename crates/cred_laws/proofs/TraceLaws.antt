@@ -18,13 +18,13 @@ use Rattle.cred_event.specs.declared.event.Change.{Change}
 use Rattle.cred_event.specs.declared.event.Change.TheVariants.{Exec}
 use Rattle.cred_event.specs.declared.event.Event.{Event}
 use Rattle.cred_event.specs.declared.event.Event.TheVariants.{Commit, Dumpable}
-use Rattle.cred_event.specs.declared.event.Mode.{Mode}
-use Rattle.cred_event.specs.declared.event.Mode.TheVariants.{Fs, Real}
+use Rattle.cred_record.specs.declared.mode.Mode.{Mode}
+use Rattle.cred_record.specs.declared.mode.Mode.TheVariants.{Fs, Real}
 use Rattle.cred_model.specs.Script.{Script, reaches}
 use Rattle.cred_model.specs.State.{State, Task, Hold, Prepared, Changed, Numbered, ProcessFlag, numbered, task_of, current_of, hold_of, held_by, prepared_of}
 use Rattle.cred_model.specs.Ends.{is_thread_of, is_beside}
 use Rattle.cred_caps.specs.Numbers.{SYS_PTRACE}
-use Rattle.cred_model.specs.Ptrace.{asking_caps, are_all, has_asking_ids, has_sys_ptrace, is_no_stronger, may_trace}
+use Rattle.cred_rules.specs.Ptrace.{asking_caps, are_all, has_asking_ids, has_sys_ptrace, is_no_stronger, may_trace}
 use Rattle.cred_model.specs.Dumpable.{flag_in, is_dumpable, with_process_flag, flagged, set_flag, without_flag, differs, renewed, is_gain, flags_by, differs_by}
 use Rattle.cred_model.specs.Dumpable.{flags_begun, flags_left, flag_of_value}
 use Rattle.cred_model.specs.TaskEvents.{by_ptrace}

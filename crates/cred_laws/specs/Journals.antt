@@ -15,7 +15,7 @@ use Rattle.cred_event.specs.declared.event.Change.{Change}
 use Rattle.cred_event.specs.declared.event.Change.TheVariants.{Exec}
 use Rattle.cred_event.specs.declared.event.Event.TheVariants.{Release, Begin, CloseFile, Chown}
 use Rattle.cred_event.specs.declared.event.Event.TheVariants.{Raw}
-use Rattle.cred_event.specs.declared.event.Mode.{Mode}
+use Rattle.cred_record.specs.declared.mode.Mode.{Mode}
 use Rattle.cred_event.specs.declared.entry.Entry.{Entry}
 use Rattle.cred_model.specs.Script.{Script}
 use Rattle.cred_model.specs.State.{State, Task, Prepared, Numbered, numbered, task_of, broadcast_in}
@@ -125,8 +125,8 @@ ExecvesByTheRule script journal =
     (state_at script journal (k + 1)))
     × IsFileOf script journal k x.prepared.label (Exec x.place) (Some x.file))
 
--- An entry leaves as many files as there were, and a file changes only by one of chown(2), chmod(2),
--- or setxattr(2) or removexattr(2) of its attribute, on that file, that isn't refused.
+-- An entry leaves as many files as there were, and a file changes only by one of chown(2),
+-- chmod(2), or setxattr(2) or removexattr(2) of its attribute, on that file, that isn't refused.
 pub record FilesStay (script : Script) (journal : List Entry) : Type 0 where
   pub many : (k : ℕ) → IfSome (slice_get journal k) (λ _.
       length (state_at script journal (k + 1)).infos ≡ length (state_at script journal k).infos)

@@ -11,11 +11,11 @@ use Rattle.cred_event.specs.declared.answer.Answer.{Answer}
 use Rattle.cred_event.specs.declared.answer.Answer.TheVariants.{Done, Executed}
 use Rattle.cred_event.specs.declared.event.Event.{Event}
 use Rattle.cred_event.specs.declared.event.Event.TheVariants.{Dumpable, Ptrace}
-use Rattle.cred_event.specs.declared.event.Mode.{Mode}
+use Rattle.cred_record.specs.declared.mode.Mode.{Mode}
 use Rattle.cred_model.specs.Script.{Script}
 use Rattle.cred_model.specs.State.{State, Task, Numbered, task_of, current_of, held_by}
 use Rattle.cred_model.specs.Ends.{is_thread_of}
-use Rattle.cred_model.specs.Ptrace.{asking_user, asking_group}
+use Rattle.cred_rules.specs.Ptrace.{asking_user, asking_group}
 use Rattle.cred_model.specs.Dumpable.{is_dumpable, differs}
 use Rattle.cred_model.specs.Step.{step}
 use Rattle.cred_sound.specs.Sound.{IsSound}

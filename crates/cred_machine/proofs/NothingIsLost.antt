@@ -18,7 +18,7 @@ use Rattle.cred_event.specs.declared.event.Event.{Event}
 use Rattle.cred_event.specs.declared.event.Event.TheVariants.{Init, Take, TakeFile, Release, Ask, Signal, Prepare, Alter, Commit, Abort, Override, Revert}
 use Rattle.cred_event.specs.declared.event.Event.TheVariants.{Begin, Act, OpenFile, CloseFile, Spawn, Fork, Exit, Sweep, Dumpable, Dumped, Ptrace, Chown, Chmod}
 use Rattle.cred_event.specs.declared.event.Event.TheVariants.{SetAttr, Stat, Raw}
-use Rattle.cred_event.specs.declared.event.Mode.{Mode}
+use Rattle.cred_record.specs.declared.mode.Mode.{Mode}
 use Rattle.cred_model.specs.Answers.{checked}
 use Rattle.cred_model.specs.Broadcasts.{dropped, joined, others_of, waits_no_more, with_broadcast}
 use Rattle.cred_model.specs.Change.{by_change, by_rule}
@@ -27,7 +27,7 @@ use Rattle.cred_model.specs.Dumpable.{differs, flag_of_value, flags_begun, flags
 use Rattle.cred_model.specs.Ends.{ended, is_task, is_thread_of}
 use Rattle.cred_model.specs.Moves.{created, first_task, preparing, replaced, table_full}
 use Rattle.cred_model.specs.Named.{change_files}
-use Rattle.cred_model.specs.Ptrace.{may_trace}
+use Rattle.cred_rules.specs.Ptrace.{may_trace}
 use Rattle.cred_model.specs.Script.{Script, chain_of, reaches, root_of}
 use Rattle.cred_model.specs.State.{State, Task, Broadcast, Prepared, Numbered, begun_by, broadcast_in, broadcast_of, credential_of, held_by, hold_of, info_of}
 use Rattle.cred_model.specs.State.{numbered}

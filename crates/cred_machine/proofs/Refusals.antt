@@ -14,9 +14,9 @@ use Rattle.cred_model.specs.TaskEvents.{by_exit, by_fork, by_ptrace, by_signal, 
 use Rattle.cred_model.specs.LabelEvents.{by_prepare}
 use Rattle.cred_model.specs.Step.{outcome}
 use Rattle.cred_model.specs.Dumpable.{is_dumpable}
-use Rattle.cred_model.specs.Ptrace.{may_trace}
+use Rattle.cred_rules.specs.Ptrace.{may_trace}
 use Rattle.cred_model.specs.Script.{Script, reaches}
-use Rattle.cred_event.specs.declared.event.Mode.{Mode}
+use Rattle.cred_record.specs.declared.mode.Mode.{Mode}
 
 pub exit_busy : (s : State) (task : ℕ) (owner : Task) (answer : Answer) → task_of s task ≡ Some owner → not_busy (begun_by s task) ≡ Err answer
     → outcome s (by_exit s task) ≡ (answer, s)

@@ -5,9 +5,9 @@ ghost use Rattle.cred_ids.specs.Limits.{TASKS};
 ghost use Rattle.cred_model.specs.Dumpable.{flag_in, with_process_flag};
 ghost use Rattle.cred_model.specs.Ends.{is_thread_of};
 
+use cred_dumpable::Dump;
 use cred_ids::NoMemory;
 use cred_plain::{Task, Tasks};
-use cred_ptrace::Dump;
 
 /// Adds the first thread of a process, which is dumpable or isn't.
 ///

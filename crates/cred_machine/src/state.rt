@@ -11,13 +11,12 @@ ghost use Rattle.cred_model.specs.Moves.{not_overridden};
 ghost use Rattle.cred_plain.specs.Creds.{seen_numbered};
 ghost use Rattle.cred_machine.specs.Kept.{KeepsReferred};
 
-use cred_attr::FileTable;
-use cred_declared::declared_files;
+use cred_declared::{FileTable, declared_files};
+use cred_dumpable::{Dump, differs};
 use cred_event::Side;
 use cred_ids::NoMemory;
 use cred_plain::labels::{hold_of, prepared_of};
 use cred_plain::{Cast, Creds, Hold, Numbered, OpenFile, Prepared, References, Task, Tasks};
-use cred_ptrace::{Dump, differs};
 use cred_record::Cred;
 use cred_script::Script;
 use std::alloc::Global;

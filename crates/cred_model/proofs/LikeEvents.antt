@@ -24,7 +24,7 @@ use Rattle.cred_event.specs.declared.answer.AbortCause.TheVariants as cause
 use Rattle.cred_event.specs.declared.event.Change.{Change}
 use Rattle.cred_event.specs.declared.event.Change.TheVariants.{Exec}
 use Rattle.cred_event.specs.declared.event.Event.{Event}
-use Rattle.cred_event.specs.declared.event.Mode.{Mode}
+use Rattle.cred_record.specs.declared.mode.Mode.{Mode}
 use Rattle.cred_event.specs.declared.event.Side.{Side}
 use Rattle.cred_event.specs.declared.event.Query.{Query}
 use Rattle.cred_event.specs.declared.event.Event.TheVariants.{Init, Take, TakeFile, Release, Ask, Signal, Prepare, Alter, Commit, Abort, Override, Revert}
@@ -35,7 +35,7 @@ use Rattle.cred_model.specs.Named.{change_files}
 use Rattle.cred_model.specs.State.{State, SealedCred, Task, Broadcast, OpenFile as Open, Hold, Prepared, Changed, ProcessFlag, Numbered, numbered, task_of}
 use Rattle.cred_model.specs.State.{broadcast_of, broadcast_in, begun_by, open_of, hold_of, prepared_of, held_by, info_of}
 use Rattle.cred_model.specs.Slots.{swept}
-use Rattle.cred_model.specs.Ptrace.{may_trace}
+use Rattle.cred_rules.specs.Ptrace.{may_trace}
 use Rattle.cred_model.specs.Dumpable.{is_dumpable, with_process_flag, set_flag, without_flag, differs, renewed, flags_by, flags_committed, flags_begun}
 use Rattle.cred_model.specs.Dumpable.{flags_left, flag_of_value}
 use Rattle.cred_model.specs.Answers.{checked}

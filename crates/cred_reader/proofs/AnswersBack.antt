@@ -1,7 +1,8 @@
 -- Answers that were printed, read back.
-use Rattle.std.proofs.Common.{◌≡◌, ℕ, ◌<◌, ◌^◌, Bool, true, false, List, [], ◌∷◌, ◌++◌, map, codes, refl, sym, ap, subst, append_assoc, decimal, arith}
+use Rattle.std.proofs.Common.{◌≡◌, ℕ, ◌≤◌, Bool, true, false, List, [], ◌∷◌, ◌++◌, map, codes, refl, sym, ap, subst, append_assoc, decimal, arith}
 use Rattle.std.proofs.lemmas.List.{append-nil}
 use Rattle.cred_ids.specs.declared.id.Ids4.{Ids4}
+use Rattle.cred_caps.specs.Secure.{LAST_BITS}
 use Rattle.cred_record.specs.declared.gains.Gains.{Gains}
 use Rattle.cred_event.specs.declared.answer.Named.TheVariants as named
 use Rattle.cred_event.specs.declared.answer.Counted.TheVariants as counted
@@ -30,7 +31,7 @@ use Rattle.cred_reader.proofs.RefusalsBack.{exists_broadcast_back, overridden_ba
 use Rattle.cred_reader.proofs.RefusalsBack.{too_many_files_back, too_many_holds_back, too_many_prepared_back, table_full_back, aborted_perm_back}
 use Rattle.cred_reader.proofs.RefusalsBack.{aborted_full_back}
 
-bits_long : (bits : ℕ) → bits < 2 ^ 8 → IsLong bits
+bits_long : (bits : ℕ) → bits ≤ LAST_BITS → IsLong bits
 bits_long bits h = omega arith
 
 acted_parts : (o t c cred s slot l left : List ℕ) → o ++ t ++ (c ++ cred ++ s ++ slot) ++ l ++ left ≡ o ++ (t ++ (c ++ (cred ++ (s ++ (slot ++ (l ++ left))))))

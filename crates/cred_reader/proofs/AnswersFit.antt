@@ -1,9 +1,10 @@
 -- The answers that words are read as fit.
-use Rattle.std.proofs.Common.{ℕ, ◌<◌, ◌^◌, ◌==◌, Bool, true, false, cond, Option, All, List, [], ◌∷◌, Result, Ok, ok_or, length, codes}
+use Rattle.std.proofs.Common.{ℕ, ◌≤◌, ◌==◌, Bool, true, false, cond, Option, All, List, [], ◌∷◌, Result, Ok, ok_or, length, codes}
 use Rattle.std.specs.Str.{bytes_eq}
 use Rattle.cred_ids.specs.Id.{IsId}
 use Rattle.cred_ids.specs.Tests.{◌>>=◌}
 use Rattle.cred_caps.specs.Caps.{IsCaps}
+use Rattle.cred_caps.specs.Secure.{LAST_BITS}
 use Rattle.cred_record.specs.File.{IsMode}
 use Rattle.cred_event.specs.declared.answer.Answer.{Answer}
 use Rattle.cred_event.specs.declared.answer.Answer.TheVariants as answer
@@ -112,7 +113,7 @@ ok_fits Caps words =
 ok_fits Groups words = then_holds (All IsId) FitsAnswer (ids words) _ (ids_fit words) (λ v h. h)
 ok_fits Bits words =
     then_holds _ FitsAnswer (two_of kinds.bits_of kinds.flag_of words) _
-    (two_holds (λ bits. bits < 2 ^ 8) (λ flag. Unit {0}) kinds.bits_of kinds.flag_of bits_fits flag_fits words) (λ v h. h.0)
+    (two_holds (λ bits. bits ≤ LAST_BITS) (λ flag. Unit {0}) kinds.bits_of kinds.flag_of bits_fits flag_fits words) (λ v h. h.0)
 ok_fits Flag words = then_holds (λ flag. Unit {0}) FitsAnswer (one_of kinds.flag_of words) _ (any_holds (one_of kinds.flag_of words)) (λ v h. tt)
 ok_fits File words = file_told_fits words
 

@@ -6,7 +6,7 @@ use Rattle.cred_ids.specs.declared.arg.Arg.{Arg}
 use Rattle.cred_record.specs.declared.want.Want.{Want}
 use Rattle.cred_record.specs.declared.id_call.IdCall.{IdCall}
 use Rattle.cred_event.specs.declared.event.Side.TheVariants.{Subjective, Objective}
-use Rattle.cred_event.specs.declared.event.Mode.TheVariants.{Fs, Real}
+use Rattle.cred_record.specs.declared.mode.Mode.TheVariants.{Fs, Real}
 use Rattle.cred_event.specs.declared.event.Change.{Change}
 use Rattle.cred_event.specs.declared.event.Query.{Query}
 use Rattle.cred_event.specs.declared.event.Event.{Event}

@@ -8,6 +8,7 @@ use Rattle.std.proofs.lemmas.Bool.Decides.{nat_tests}
 use Rattle.cred_ids.specs.declared.arg.Arg.TheVariants.{Keep, Set}
 use Rattle.cred_ids.specs.Id.{IsId}
 use Rattle.cred_caps.specs.Caps.{IsCaps}
+use Rattle.cred_caps.specs.Secure.{LAST_BITS}
 use Rattle.cred_spelling.specs.Spellings as spelling
 use Rattle.cred_spelling.specs.Table.{named}
 use Rattle.cred_spelling.specs.Words.{word_of}
@@ -102,10 +103,10 @@ pub namespace_fits : OfAll IsNamespace spelling.namespace_of
 namespace_fits [] = tt
 namespace_fits (first ∷ digits) = either_holds IsNamespace (first == 110) _ None (within_fits digits) tt
 
-pub bits_fits : OfAll (λ bits. bits < 2 ^ 8) kinds.bits_of
+pub bits_fits : OfAll (λ bits. bits ≤ LAST_BITS) kinds.bits_of
 bits_fits word =
-    then_some IsNumber (λ bits. bits < 2 ^ 8) (spelling.number_of word) _ (number_fits word)
-    (λ number h. if_holds (λ bits. bits < 2 ^ 8) _ number (λ t. let le = up_to number 255 t in omega arith))
+    then_some IsNumber (λ bits. bits ≤ LAST_BITS) (spelling.number_of word) _ (number_fits word)
+    (λ number h. if_holds (λ bits. bits ≤ LAST_BITS) _ number (up_to number LAST_BITS))
 
 -- it holds of each value of a table
 abbrev pub RowsHold : {A : Type 0} → (A → Type 0) → List (List ℕ × A) → Type 0

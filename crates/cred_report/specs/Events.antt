@@ -12,8 +12,8 @@ use Rattle.cred_event.specs.declared.event.Event.TheVariants.{OpenFile, CloseFil
 use Rattle.cred_event.specs.declared.event.Event.TheVariants.{Exit, Sweep, Dumpable, Dumped}
 use Rattle.cred_event.specs.declared.event.Event.TheVariants.{Ptrace, Chown, Chmod, SetAttr, Stat}
 use Rattle.cred_event.specs.declared.event.Event.TheVariants.{Raw}
-use Rattle.cred_event.specs.declared.event.Mode.{Mode}
-use Rattle.cred_event.specs.declared.event.Mode.TheVariants.{Fs, Real}
+use Rattle.cred_record.specs.declared.mode.Mode.{Mode}
+use Rattle.cred_record.specs.declared.mode.Mode.TheVariants.{Fs, Real}
 use Rattle.cred_model.specs.Script.{Script}
 use Rattle.cred_report.specs.Questions.{file_text, want_text, query_text}
 use Rattle.cred_report.specs.Numbers.{arg_text}

@@ -9,9 +9,9 @@ use crate::file_events::{prepend_chmod, prepend_chown, prepend_set_attr, prepend
 use crate::pen::Pen;
 use crate::questions::{prepend_file, prepend_letters, prepend_query};
 use crate::words::{prepend_label, prepend_number, prepend_three, prepend_two, prepend_word};
-use cred_event::{Change, Event, Mode, Query, Side};
+use cred_event::{Change, Event, Query, Side};
 use cred_ids::{Id, NoMemory};
-use cred_record::{IdCall, Want};
+use cred_record::{IdCall, Mode, Want};
 use cred_script::Script;
 
 /// Writes the creation of a first task.

@@ -44,8 +44,8 @@ pub(crate) fn report<R: Threads + Wait + Sync, K: Sink, G: Gate + Sync>(
 ///
 /// # Errors
 ///
-/// The sink's refusal, and `Memory` if an allocation fails, in the threads too: a prefix of the text
-/// of one legal journal was written.
+/// The sink's refusal, and `Memory` if an allocation fails, in the threads too: a prefix of the
+/// text of one legal journal was written.
 fn write_lanes<R: Threads + Wait + Sync, K: Sink, G: Gate + Sync>(
     rt: &R,
     alloc: Global,
@@ -96,8 +96,8 @@ fn write_named<N: Name + Send + Sync, R: Threads + Wait + Sync, K: Sink, G: Gate
 ///
 /// # Errors
 ///
-/// The sink's refusal, and `Memory` if an allocation fails, in the threads too: a prefix of the text
-/// of one legal journal was written.
+/// The sink's refusal, and `Memory` if an allocation fails, in the threads too: a prefix of the
+/// text of one legal journal was written.
 fn write_parts<N: Name + Send + Sync, R: Threads + Wait + Sync, K: Sink, G: Gate + Sync>(
     rt: &R,
     alloc: Global,

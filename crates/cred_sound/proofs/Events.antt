@@ -19,7 +19,7 @@ use Rattle.cred_event.specs.declared.event.Event.TheVariants.{Begin, Act, OpenFi
 use Rattle.cred_event.specs.declared.event.Event.TheVariants.{SetAttr, Stat, Raw}
 use Rattle.cred_event.specs.declared.event.Change.{Change}
 use Rattle.cred_event.specs.declared.event.Change.TheVariants.{Exec}
-use Rattle.cred_event.specs.declared.event.Mode.{Mode}
+use Rattle.cred_record.specs.declared.mode.Mode.{Mode}
 use Rattle.cred_event.specs.declared.event.Side.{Side}
 use Rattle.cred_event.specs.declared.answer.Answer.{Answer}
 use Rattle.cred_event.specs.declared.answer.Answer.TheVariants.{Done, Sealed, Kept, Told, Einval, Stale, TableFull}
@@ -33,7 +33,7 @@ use Rattle.cred_model.specs.FileChanges.{changed_file, changed_by}
 use Rattle.cred_model.specs.Answers.{checked}
 use Rattle.cred_model.specs.Change.{by_change}
 use Rattle.cred_model.specs.Ends.{ended}
-use Rattle.cred_model.specs.Ptrace.{may_trace}
+use Rattle.cred_rules.specs.Ptrace.{may_trace}
 use Rattle.cred_model.specs.Dumpable.{is_dumpable, set_flag, flags_begun, flags_committed, flag_of_value}
 use Rattle.cred_model.specs.Moves.{table_full, with_overrides, with_override, overridden, with_change, first_task, created, preparing, committed, given_up}
 use Rattle.cred_model.specs.LabelEvents.{ends_with, broadcasts_after, commit_answer, try_commit, take_hold, is_access, for_task, for_access, override_held}

@@ -8,8 +8,8 @@ use Rattle.cred_slots.specs.Table.{Table, IsSameBag, free_in}
 use Rattle.cred_tables.specs.Kept.{Parts, creds_in, seen_in, state_of, IsKept, Seals}
 use Rattle.cred_tables.specs.Out.{AreOut}
 use Rattle.cred_tables.specs.declared.table.Numbered.{Numbered}
-use Rattle.cred_state.specs.declared.state.acts.Replacement.{Replacement}
-use Rattle.cred_state.specs.declared.state.acts.Replacement.TheVariants.{Changed, Words}
+use Rattle.cred_state.specs.declared.state.call_events.acts.Replacement.{Replacement}
+use Rattle.cred_state.specs.declared.state.call_events.acts.Replacement.TheVariants.{Changed, Words}
 
 -- the credential by which a thread's own is replaced
 abbrev pub replacement : Credential → Replacement → Credential

@@ -15,31 +15,23 @@ ghost use Rattle.cred_sound.specs.Sound.{IsSound};
 ghost use Rattle.cred_tables.specs.Kept.{cred_under, seen_in, AreInPlace, IsInUse};
 ghost use Rattle.cred_tables.specs.Out.{AreHome, AreOut};
 
-mod acts;
-mod broadcasts;
-mod decides;
+mod call_events;
 mod enters;
-mod file_calls;
-mod files;
-mod holds;
+mod file_events;
+mod label_events;
 mod lends;
-mod overrides;
-mod prepare;
-mod raw;
 mod replaces;
 mod returns;
-mod tasks;
-mod traces;
+mod task_events;
 
-use cred_attr::FileTable;
 use cred_cast::Casts;
-use cred_declared::{declared_files, root_of};
+use cred_declared::{FileTable, declared_files, root_of};
+use cred_dumpable::Dump;
 use cred_event::{Answer, Event, Side};
 use cred_files::Files;
 use cred_hold::{Cells, Master, make};
 use cred_ids::NoMemory;
 use cred_procs::Procs;
-use cred_ptrace::Dump;
 use cred_record::Cred;
 use cred_script::Script;
 use cred_slots::Slots;
@@ -216,26 +208,19 @@ impl State {
         ensures words { self.new.words ≡ self.old.words }
     {
         match event {
-            Event::Ask { label, query } => self.ask(cells, *label, *query),
-            Event::Signal {
-                from,
-                hold,
-                to,
-                target,
-            } => Ok(self.signal(cells, *from, *hold, *to, *target)),
-            Event::Alter { label, change } => self.alter(cells, script, *label, *change),
-            Event::OpenFile {
-                hold,
-                file,
-                want,
-                fd,
-            } => self.open(cells, *hold, *file, *want, *fd),
             Event::Take { label, task, side } => self.take(*label, *task, *side),
+            Event::TakeFile { label, fd } => self.take_file(*label, *fd),
             Event::Release { label } => Ok(self.release(*label)),
+            Event::Ask { label, query } => self.ask(cells, *label, *query),
             Event::Prepare { label, task, hold } => self.prepare(cells, *label, *task, *hold),
+            Event::Alter { label, change } => self.alter(cells, script, *label, *change),
             Event::Commit { label } => self.commit(cells, *label),
+            Event::Abort { label } => Ok(self.abort(*label)),
+            Event::Override { task, label } => self.override_with(*task, *label),
+            Event::Revert { task } => Ok(self.revert(*task)),
             Event::Begin { task, call } => self.begin(cells, line, *task, call),
             Event::Act { broadcast } => self.act(cells, *broadcast),
+            Event::Raw { task, call } => self.raw(cells, *task, call),
             Event::Init {
                 task,
                 process,
@@ -253,14 +238,12 @@ impl State {
                 process,
             } => self.fork(*task, *child, *process),
             Event::Exit { task } => self.exit(*task),
-            Event::TakeFile { label, fd } => self.take_file(*label, *fd),
-            Event::Abort { label } => Ok(self.abort(*label)),
-            Event::Override { task, label } => self.override_with(*task, *label),
-            Event::Revert { task } => Ok(self.revert(*task)),
-            Event::CloseFile { fd } => Ok(self.close_file(*fd)),
-            Event::Sweep => Ok(self.sweep()),
-            Event::Dumpable { task, value } => Ok(self.set_dumpable(*task, *value)),
-            Event::Dumped { task } => Ok(self.dumped(*task)),
+            Event::Signal {
+                from,
+                hold,
+                to,
+                target,
+            } => Ok(self.signal(cells, *from, *hold, *to, *target)),
             Event::Ptrace {
                 from,
                 hold,
@@ -268,6 +251,15 @@ impl State {
                 target,
                 mode,
             } => Ok(self.trace(cells, script, *from, *hold, *to, *target, *mode)),
+            Event::Dumpable { task, value } => Ok(self.set_dumpable(*task, *value)),
+            Event::Dumped { task } => Ok(self.dumped(*task)),
+            Event::OpenFile {
+                hold,
+                file,
+                want,
+                fd,
+            } => self.open(cells, *hold, *file, *want, *fd),
+            Event::CloseFile { fd } => Ok(self.close_file(*fd)),
             Event::Chown {
                 hold,
                 file,
@@ -277,7 +269,7 @@ impl State {
             Event::Chmod { hold, file, mode } => self.chmod(cells, *hold, *file, *mode),
             Event::SetAttr { hold, file, attr } => self.set_attr(cells, *hold, *file, attr),
             Event::Stat { hold, file } => Ok(self.stat(*hold, *file)),
-            Event::Raw { task, call } => self.raw(cells, *task, call),
+            Event::Sweep => Ok(self.sweep()),
         }
     }
 

@@ -10,9 +10,9 @@ ghost use Rattle.cred_model.specs.Moves.{first_task};
 ghost use Rattle.cred_model.specs.State.{Task};
 ghost use Rattle.cred_procs.specs.Tasks.{forked, has_process, task_in};
 
+use cred_dumpable::Dump;
 use cred_ids::NoMemory;
 use cred_procs::{CredNumbers, Procs};
-use cred_ptrace::Dump;
 
 /// The first thread of a process is created, and the process is dumpable or isn't.
 ///

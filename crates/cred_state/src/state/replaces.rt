@@ -10,10 +10,10 @@ ghost use Rattle.cred_setid.specs.Parts.{changed};
 ghost use Rattle.cred_tables.specs.Kept.{cred_under, creds_in};
 ghost use Rattle.cred_state.specs.Replacements.{IsReplaced, MayReplace};
 
+use cred_dumpable::Dump;
 use cred_hold::{Cells, Master};
 use cred_ids::Groups;
 use cred_procs::Procs;
-use cred_ptrace::Dump;
 use cred_setid::IdParts;
 use cred_slots::Slots;
 use cred_tables::{Numbered, renew_in, seal_next};

@@ -8,7 +8,7 @@ use crate::tests::books::{Walk, run_whole, walk_in_book};
 use cred_book::Book;
 use cred_event::Event;
 use cred_hold::Cells;
-use cred_ids::{Arg, Id};
+use cred_ids::{Arg, Id, limits};
 use cred_record::IdCall;
 use cred_report::print;
 use std::alloc::Global;
@@ -135,7 +135,7 @@ fn is_entered(
 
 /// Whether there are so many references to the first slots, and none to the others.
 fn are_used(book: &Book, first: [u64; 8]) -> bool {
-    (0..256).all(|slot| {
+    (0..limits::SLOTS as u32).all(|slot| {
         let uses = first.get(slot as usize).copied().unwrap_or(0);
         book.uses(slot) == uses
     })

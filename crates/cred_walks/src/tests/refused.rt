@@ -8,6 +8,7 @@ use crate::tests::books::{Walk, run_whole, walk_in_book};
 use crate::tests::refused::calls::{CAST, Call, event_of, line_of};
 use cred_book::Book;
 use cred_hold::Cells;
+use cred_ids::limits;
 use cred_report::{Text, print};
 use std::alloc::Global;
 use std::test::Fail;
@@ -223,7 +224,7 @@ fn tell_next(alloc: Global, cells: &Cells, book: &mut Book, told: &mut Vec<u8>) 
 
 /// Adds how many references there are to each slot.
 fn tell_uses(book: &Book, told: &mut Vec<u8>) -> Result<(), Fail> {
-    for slot in 0..256 {
+    for slot in 0..limits::SLOTS as u32 {
         told.push(u8::try_from(book.uses(slot)).unwrap_or(u8::MAX))?;
     }
     Ok(())

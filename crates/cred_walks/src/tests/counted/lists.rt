@@ -1,10 +1,10 @@
 //! Tasks, broadcasts, prepared labels and references as plain lists, in which all is found by
 //! search.
-use cred_ids::NoMemory;
+use cred_ids::{NoMemory, limits};
 use std::alloc::Global;
 
 /// How many slots there are.
-pub(crate) const SLOTS: u32 = 256;
+pub(crate) const SLOTS: u32 = limits::SLOTS as u32;
 
 /// What refers to a credential. A task's overrides are numbered from 1, the newest last; a prepared
 /// label refers to its base; and what was given up still refers to its credential until the sweep.
