@@ -120,17 +120,17 @@ fn place_of(slot: u32, i: usize) -> usize
 }
 
 /// The number of words of the table.
-fn word_count() -> usize
-    ensures { result ≡ total }
-{
-    1 + limits::SLOTS * WORDS
-}
+const TOTAL: usize = 1 + limits::SLOTS * WORDS;
 
-/// `n` zeros.
-fn zeros(alloc: Global, n: usize) -> Result<Vec<u64>, AllocError>
-    ensures { IfOk result (λ v. v.items ≡ replicate n 0) }
+/// What the words of a table are at first.
+static ZEROS: [u64; TOTAL] = [0; TOTAL];
+
+/// As many zeros as the table has words. They take no memory of their own: what is copied from
+/// them is cleared in place.
+fn zeros() -> &'static [u64]
+    ensures { result.now ≡ replicate total 0 }
 {
-    vec![in alloc; 0; n]
+    &ZEROS
 }
 
 impl Cells {
@@ -142,8 +142,7 @@ impl Cells {
     pub fn make(alloc: Global) -> Result<(Cells, Master), AllocError>
         ensures { IfOk result (λ r. (r.1.id ≡ r.0) × (r.1.ledger ≡ ledger_of first_master)) }
     {
-        let words = zeros(alloc, word_count())?;
-        let (table, seat) = Table::of_words(alloc, words.as_slice(), &())?;
+        let (table, seat) = Table::of_words(alloc, zeros(), &())?;
         Ok((Cells { table }, Master { seat }))
     }
 }
