@@ -9,7 +9,7 @@ ghost use Rattle.cred_access.specs.Seen.{IsSeen, seen_of};
 
 use cred_caps::{Cap, CapSet};
 use cred_ids::{Id, Ids4};
-use cred_record::{Cred, Mode};
+use cred_record::{Cred, PtraceMode};
 
 /// What the check looks at of a credential.
 #[derive(Clone, Copy)]
@@ -36,32 +36,32 @@ impl Seen {
     }
 
     /// The user id that a task asks by.
-    fn user(&self, mode: Mode) -> Id
+    fn user(&self, mode: PtraceMode) -> Id
         ensures { (c : Credential) → IsSeen self.now c → result ≡ asking_user mode c }
     {
         match mode {
-            Mode::Fs => self.uid.fs,
-            Mode::Real => self.uid.real,
+            PtraceMode::Fs => self.uid.fs,
+            PtraceMode::Real => self.uid.real,
         }
     }
 
     /// The group id that it asks by.
-    fn group(&self, mode: Mode) -> Id
+    fn group(&self, mode: PtraceMode) -> Id
         ensures { (c : Credential) → IsSeen self.now c → result ≡ asking_group mode c }
     {
         match mode {
-            Mode::Fs => self.gid.fs,
-            Mode::Real => self.gid.real,
+            PtraceMode::Fs => self.gid.fs,
+            PtraceMode::Real => self.gid.real,
         }
     }
 
     /// The capabilities that it asks by.
-    fn caps(&self, mode: Mode) -> CapSet
+    fn caps(&self, mode: PtraceMode) -> CapSet
         ensures { (c : Credential) → IsSeen self.now c → result ≡ asking_caps mode c }
     {
         match mode {
-            Mode::Fs => self.eff,
-            Mode::Real => self.perm,
+            PtraceMode::Fs => self.eff,
+            PtraceMode::Real => self.perm,
         }
     }
 
@@ -90,11 +90,11 @@ fn are_all(id: Id, ids: &Ids4) -> bool
 /// where `reach` holds:
 ///
 /// - The real, effective and saved user ids of `to` are all the user id that is asked by, and its
-///   group ids likewise. With `Mode::Fs` `from` asks by its filesystem ids, with `Mode::Real` by
+///   group ids likewise. With `PtraceMode::Fs` `from` asks by its filesystem ids, with `PtraceMode::Real` by
 ///   its real ones.
 /// - The target's process is dumpable.
 /// - Both are in one user namespace, and what is permitted to `to` is in the capabilities that are
-///   asked by: the effective set of `from` with `Mode::Fs`, its permitted set with `Mode::Real`.
+///   asked by: the effective set of `from` with `PtraceMode::Fs`, its permitted set with `PtraceMode::Real`.
 ///
 /// The tests that other security modules than the commoncap one make are not made.
 pub fn may_trace(
@@ -103,7 +103,7 @@ pub fn may_trace(
     same: bool,
     reach: bool,
     dumpable: bool,
-    mode: Mode,
+    mode: PtraceMode,
 ) -> bool
     ensures { result ≡ may_trace from.now to.now same reach dumpable mode }
 {
@@ -117,7 +117,7 @@ pub fn may_trace_by(
     same: bool,
     reach: bool,
     dumpable: bool,
-    mode: Mode,
+    mode: PtraceMode,
 ) -> bool
     ensures { (asker target : Credential) → IsSeen from.now asker → IsSeen to.now target
         → result ≡ may_trace asker target same reach dumpable mode }
@@ -129,7 +129,7 @@ pub fn may_trace_by(
 }
 
 /// Whether all ids of the target are those that are asked by.
-fn has_asking_ids(from: &Seen, to: &Seen, mode: Mode) -> bool
+fn has_asking_ids(from: &Seen, to: &Seen, mode: PtraceMode) -> bool
     ensures { (asker target : Credential) → IsSeen from.now asker → IsSeen to.now target
         → result ≡ has_asking_ids asker target mode }
 {
@@ -137,7 +137,7 @@ fn has_asking_ids(from: &Seen, to: &Seen, mode: Mode) -> bool
 }
 
 /// Whether the target, in the same user namespace, is permitted no more than is asked by.
-fn is_no_stronger(from: &Seen, to: &Seen, mode: Mode) -> bool
+fn is_no_stronger(from: &Seen, to: &Seen, mode: PtraceMode) -> bool
     ensures { (asker target : Credential) → IsSeen from.now asker → IsSeen to.now target
         → result ≡ is_no_stronger asker target mode }
 {

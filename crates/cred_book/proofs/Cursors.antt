@@ -39,7 +39,7 @@ use Rattle.cred_book.specs.declared.step.Step.TheVariants.{More}
 use Rattle.cred_book.proofs.Counts.{entered_other, entered_own, lines_few}
 use Rattle.cred_book.proofs.Decided.{decided_other, decided_own}
 use Rattle.cred_book.proofs.Left.{all_grow, all_have_ended, lane_in, one_left, others_stay, own_grows, set_up_stays}
-use Rattle.cred_book.proofs.Lent.{lane_tokens_none}
+use Rattle.cred_book.proofs.LentTokens.{lane_tokens_none}
 use Rattle.cred_course.proofs.Measure.{step_falls}
 use Rattle.cred_book.proofs.Works.{GoesOn, IsNowOut, after, grown, lent_stays, out_in, where_some, works_stay}
 

@@ -32,8 +32,8 @@ abbrev pub out_of : Recorded → ℕ → Option ℕ
 out_of book lane = option_and_then (λ line. line) (slice_get book.outs lane)
 
 -- the script's files as they stand after the journal
-abbrev pub infos_in : Recorded → List File
-infos_in book = (replay book.script book.journal).infos
+abbrev pub inodes_in : Recorded → List File
+inodes_in book = (replay book.script book.journal).inodes
 
 -- the book in which an event of a line is entered, with its answer
 abbrev pub with_event : Recorded → ℕ → Event → Recorded

@@ -1,6 +1,6 @@
 //! The events: each is one step of the book.
 use cred_ids::{Arg, Id, Kind};
-use cred_record::{AdjCall, Attr, IdCall, Mode, Want};
+use cred_record::{AdjCall, Attr, IdCall, PtraceMode, Want};
 
 /// Which of a task's two credentials is meant (Documentation/security/credentials.rst).
 #[derive(Clone, Copy, PartialEq, Eq, Debug)]
@@ -166,7 +166,7 @@ pub enum Event {
         hold: u32,
         to: u32,
         target: u32,
-        mode: Mode,
+        mode: PtraceMode,
     },
     /// The file has this owner and this group from now on (chown(2)): the credential that `hold`
     /// holds decides. A file is named by its place among the script's files, counted from 0.

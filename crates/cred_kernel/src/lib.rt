@@ -38,6 +38,6 @@ pub use gate::{Gate, NoGate, Place};
 pub use guard::KernelGuard;
 pub use kernel::Kernel;
 pub use name::{Name, Part};
-pub use parts::Parts;
+pub use parts::KernelParts;
 pub use rest::Rest;
 pub use turns::{Turn, TurnList};

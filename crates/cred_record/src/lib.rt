@@ -23,7 +23,7 @@ pub use file::{FileInfo, FileKind, copy_attr};
 pub use gains::Gains;
 pub use id_call::{IdCall, IdList};
 pub use layout::WORDS;
-pub use mode::Mode;
+pub use mode::PtraceMode;
 pub use refusal::{Denial, Refusal};
 pub use valid::is_credential;
 pub use want::Want;

@@ -4,22 +4,22 @@ use Rattle.cred_ids.specs.declared.id.Ids4.{Ids4}
 use Rattle.cred_caps.specs.Caps.{Caps, is_within}
 use Rattle.cred_caps.specs.Numbers.{SYS_PTRACE}
 use Rattle.cred_record.specs.Credential.{Credential, capable}
-use Rattle.cred_record.specs.declared.mode.Mode.{Mode}
-use Rattle.cred_record.specs.declared.mode.Mode.TheVariants.{Fs, Real}
+use Rattle.cred_record.specs.declared.mode.PtraceMode.{PtraceMode}
+use Rattle.cred_record.specs.declared.mode.PtraceMode.TheVariants.{Fs, Real}
 
 -- the user id that a task asks by: with PTRACE_MODE_FSCREDS its filesystem user id, and with
 -- PTRACE_MODE_REALCREDS its real one (step 2)
-abbrev pub asking_user : Mode → Credential → ℕ
+abbrev pub asking_user : PtraceMode → Credential → ℕ
 asking_user Fs c = c.uid.fs
 asking_user Real c = c.uid.real
 
 -- the group id that it asks by, likewise
-abbrev pub asking_group : Mode → Credential → ℕ
+abbrev pub asking_group : PtraceMode → Credential → ℕ
 asking_group Fs c = c.gid.fs
 asking_group Real c = c.gid.real
 
 -- the capabilities that it asks by: its effective set, or its permitted one (step 5.1)
-abbrev pub asking_caps : Mode → Credential → Caps
+abbrev pub asking_caps : PtraceMode → Credential → Caps
 asking_caps Fs c = c.eff
 asking_caps Real c = c.perm
 
@@ -29,13 +29,13 @@ are_all id ids = (ids.real == id) && (ids.effective == id) && (ids.saved == id)
 
 -- The target's real, effective and saved user id are all the one that is asked by, and its group
 -- ids likewise (step 3).
-abbrev pub has_asking_ids : Credential → Credential → Mode → Bool
+abbrev pub has_asking_ids : Credential → Credential → PtraceMode → Bool
 has_asking_ids from to mode =
     are_all (asking_user mode from) to.uid && are_all (asking_group mode from) to.gid
 
 -- Both are in one user namespace, and what is permitted to the target is among the capabilities
 -- that are asked by (step 5.2).
-abbrev pub is_no_stronger : Credential → Credential → Mode → Bool
+abbrev pub is_no_stronger : Credential → Credential → PtraceMode → Bool
 is_no_stronger from to mode = (from.ns == to.ns) && is_within to.perm (asking_caps mode from)
 
 -- The one that asks has CAP_SYS_PTRACE in the user namespace of the target: it has the capability,
@@ -47,7 +47,7 @@ has_sys_ptrace from reach = capable from SYS_PTRACE && reach
 -- it always may (step 1). Else it has to pass three tests, each of which CAP_SYS_PTRACE passes: by
 -- the ids (step 3), by whether the target's process is dumpable (step 4), and by the capabilities
 -- (step 5).
-abbrev pub may_trace : Credential → Credential → Bool → Bool → Bool → Mode → Bool
+abbrev pub may_trace : Credential → Credential → Bool → Bool → Bool → PtraceMode → Bool
 may_trace from to same reach dumpable mode =
     let capable = has_sys_ptrace from reach in
     same

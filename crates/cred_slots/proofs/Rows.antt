@@ -6,7 +6,7 @@ use Rattle.std.proofs.lemmas.List.{length-map, take-append-le, take_all}
 use Rattle.std.proofs.lemmas.List.FromFn.{length-map-range_with_len, get_or-map-range_with_len}
 use Rattle.cred_slots.specs.declared.row.Row.{Row}
 use Rattle.cred_ids.specs.Limits.{SLOTS, slots}
-use Rattle.cred_slots.specs.Rows.{row_at, repeated, held_in, late_in, held_count, late_count, without_late, unused, AreSoundRows}
+use Rattle.cred_slots.specs.Rows.{row_at, repeated, held_in, deferred_in, held_count, late_count, without_late, unused, AreSoundRows}
 
 pub map-is : (f : Row → Row) (xs ys : List Row) → length ys ≡ length xs → ((k : ℕ) → k < length xs → row_at ys k ≡ f (row_at xs k)) → ys ≡ map f xs
 map-is f [] [] long each = refl
@@ -26,9 +26,9 @@ pub held_in-map : (rows : List Row) → held_in (map without_late rows) ≡ held
 held_in-map [] = refl
 held_in-map (row ∷ rows) = ap (λ (rest : List ℕ). replicate row.held row.number ++ rest) (held_in-map rows)
 
-pub late_in-map : (rows : List Row) → late_in (map without_late rows) ≡ []
-late_in-map [] = refl
-late_in-map (row ∷ rows) = late_in-map rows
+pub deferred_in-map : (rows : List Row) → deferred_in (map without_late rows) ≡ []
+deferred_in-map [] = refl
+deferred_in-map (row ∷ rows) = deferred_in-map rows
 
 pub no_flag : (slot : ℕ) → slot < SLOTS → get_or (map (λ _. false) slots) slot false ≡ false
 unfolding slots
@@ -49,7 +49,7 @@ sweep-sound {rows = rows} {deferred = deferred} s = record {
   places = s.places;
   stands = λ k h. rw (row_at-map rows k) (λ some. s.stands k h (omega arith));
   keeps = λ k h is. rw (row_at-map rows k) (omega (arith, s.keeps k h is));
-  given_up = record { counts = λ test. rw (late_in-map rows) refl };
+  given_up = record { counts = λ test. rw (deferred_in-map rows) refl };
   counted = ap length (held_in-map rows) ∙ s.counted;
   seals = s.seals;
   refers = omega (arith, s.refers);

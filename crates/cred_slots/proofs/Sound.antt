@@ -8,7 +8,7 @@ use Rattle.std.proofs.lemmas.Bool.Decides.{nat_tests}
 use Rattle.cred_ids.specs.Limits.{SLOTS}
 use Rattle.cred_slots.specs.declared.row.Row.{Row}
 use Rattle.cred_slots.specs.Table.{IsSameBag}
-use Rattle.cred_slots.specs.Rows.{row_at, repeated, held_in, late_in, held_count, late_count, IsFlagged, AreSoundRows}
+use Rattle.cred_slots.specs.Rows.{row_at, repeated, held_in, deferred_in, held_count, late_count, IsFlagged, AreSoundRows}
 use Rattle.cred_slots.proofs.Counting.{weight, count-append, count-cons, count-repeated, count-repeated-set, length-repeated-set, count-le-length, sum_some}
 use Rattle.cred_slots.proofs.Counting.{bag_length}
 
@@ -55,8 +55,8 @@ IsFlagged-keep count flags rows is long slot within row e = record {
 }
 
 -- deferred references, where the row counts as many as before
-bag-keep : (deferred : List ℕ) (rows : List Row) (slot : ℕ) (row : Row) → slot < length rows → IsSameBag deferred (late_in rows)
-    → ((test : ℕ → Bool) → weight late_count test row ≡ weight late_count test (row_at rows slot)) → IsSameBag deferred (late_in (slice_set rows slot row))
+bag-keep : (deferred : List ℕ) (rows : List Row) (slot : ℕ) (row : Row) → slot < length rows → IsSameBag deferred (deferred_in rows)
+    → ((test : ℕ → Bool) → weight late_count test row ≡ weight late_count test (row_at rows slot)) → IsSameBag deferred (deferred_in (slice_set rows slot row))
 bag-keep deferred rows slot row within is same = record {
   counts = λ test. omega (arith, is.counts test, same test, count-repeated-set late_count test rows slot row within);
 }
@@ -122,7 +122,7 @@ row_fits {rows = rows} {deferred = deferred} s slot within =
       s.all_rows,
       s.counted,
       s.refers,
-      bag_length deferred (late_in rows) s.given_up,
+      bag_length deferred (deferred_in rows) s.given_up,
       count-le-length held_count rows slot (omega (arith, s.all_rows)),
       count-le-length late_count rows slot (omega (arith, s.all_rows)),
     )

@@ -3,10 +3,10 @@
 //!
 //! Below the laws and the book, so that both take it from here. The proof goes by parts: what an
 //! event may change of the tasks, the broadcasts, the open files, the holds, the prepared labels
-//! and the sealed credentials, and the few moves of a ledger that these come to.
+//! and the sealed credentials, and the few moves of a slot_use that these come to.
 #![tactic(auto)]
 
-ghost use Rattle.cred_sound.specs.Few.{TasksAreFew};
+ghost use Rattle.cred_sound.specs.TaskCount.{TasksAreFew};
 ghost use Rattle.cred_sound.specs.Sound.{StatesAreSound};
 
 /// In the state after any journal each reference is to a sealed credential, each sealed credential

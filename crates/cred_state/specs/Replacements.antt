@@ -5,9 +5,9 @@ use Rattle.cred_setid.specs.Parts.{changed}
 use Rattle.cred_model.specs.State.{Task, current_of}
 use Rattle.cred_hold.specs.Tokens.{Mastered}
 use Rattle.cred_slots.specs.Table.{Table, IsSameBag, free_in}
-use Rattle.cred_tables.specs.Kept.{Parts, creds_in, seen_in, state_of, IsKept, Seals}
+use Rattle.cred_tables.specs.Kept.{StateLists, creds_in, seen_in, state_of, IsKept, Seals}
 use Rattle.cred_tables.specs.Out.{AreOut}
-use Rattle.cred_tables.specs.declared.table.Numbered.{Numbered}
+use Rattle.cred_tables.specs.declared.table.NumberedSlot.{NumberedSlot}
 use Rattle.cred_state.specs.declared.state.call_events.acts.Replacement.{Replacement}
 use Rattle.cred_state.specs.declared.state.call_events.acts.Replacement.TheVariants.{Changed, Words}
 
@@ -26,7 +26,7 @@ HasValidSets c (Words made) = ⊤
 -- credentials.
 pub record MayReplace (tasks : List Task) (slots : Table) (master : Mastered) (task slot : ℕ)
     (now : Numbered) : Type 0 where
-  pub beside : Parts
+  pub beside : StateLists
   pub kept : IsKept (record beside { tasks = tasks }) master.slots slots
   pub has :
       current_of (state_of (record beside { tasks = tasks }) master.slots slots) task

@@ -19,10 +19,10 @@ use cred_decide::refusal_answer;
 use cred_dumpable::differs;
 use cred_event::{AbortCause, Answer, Named};
 use cred_ids::NoMemory;
-use cred_plain::casts::{
+use cred_plain::broadcasts::{
     act, broadcast_of, broadcast_place, drop_broadcast, open_broadcast, open_in,
 };
-use cred_plain::{Cast, Ending};
+use cred_plain::{Broadcast, Ending};
 use cred_record::{Cred, IdCall, Refusal, copy};
 use cred_setid::apply_to;
 use std::alloc::Global;
@@ -85,22 +85,22 @@ impl State {
             Ok(cred) => cred,
             Err(refusal) => return refusal_answer(refusal),
         };
-        let other = differs(old.cred, &cred);
+        let ids_changed = differs(old.cred, &cred);
         let (number, waiting) = (old.number, self.tasks.others(process, task)?);
-        let broadcast = Cast::new(line, process, task, call.copy()?, waiting);
-        self.open(live, broadcast, number, cred, other)
+        let broadcast = Broadcast::new(line, process, task, call.copy()?, waiting);
+        self.open(live, broadcast, number, cred, ids_changed)
     }
 
     /// The caller of a broadcast has made this credential of its current one, of this number. That
-    /// takes a slot, and the broadcast is open if anybody waits in it. `other` says that an
+    /// takes a slot, and the broadcast is open if anybody waits in it. `ids_changed` says that an
     /// effective or a filesystem id is another one in it.
     fn open(
         &mut self,
         live: &mut Option<Marks>,
-        broadcast: Cast,
+        broadcast: Broadcast,
         old: u64,
         cred: Cred,
-        other: bool,
+        ids_changed: bool,
     ) -> Result<Answer, NoMemory>
         requires waiting { length broadcast.waiting ≤ TASKS }
         requires caller { IsCurrentOf self.old broadcast.caller old }
@@ -108,7 +108,7 @@ impl State {
         requires known { IfSome live.old (λ marks. AreLive marks self.old) }
         ensures live { IfSome live.new (λ marks. AreLive marks self.new) }
         ensures ok { IfOk result (λ answer. in_slot self.old table_full
-            (λ s slot. begun s broadcast old cred other slot) ≡ (answer, self.new)) }
+            (λ s slot. begun s broadcast old cred ids_changed slot) ≡ (answer, self.new)) }
         ensures err { OnErr result (self.new ≡ self.old) }
     {
         let mut marks = live_slots(self, live.take())?;
@@ -127,7 +127,7 @@ impl State {
                 return Err(err);
             }
         };
-        self.dump.renew(process, other);
+        self.flags.renew(process, ids_changed);
         *live = marks.after_call(slot, swept);
         Ok(Answer::Began {
             cred: number,
@@ -177,14 +177,14 @@ impl State {
             }
             Err(Refusal::Memory) => return Err(NoMemory),
         };
-        let other = differs(current.cred, &cred);
+        let ids_changed = differs(current.cred, &cred);
         let Some(slot) = room.slot else {
             return self.end_process(process, task, AbortCause::Full);
         };
         let cred = self.seal(number, cred, slot, room.swept)?;
         self.tasks.set_current_at(task_at, cred);
         act(&mut self.broadcasts, broadcast_at, task);
-        self.dump.renew(own, other);
+        self.flags.renew(own, ids_changed);
         Ok(Answer::Acted {
             task,
             cred,
@@ -248,7 +248,7 @@ impl State {
         defer_left(&mut self.deferred, swept, &self.tasks, ending)?;
         self.tasks.end(ending);
         drop_broadcast(&mut self.broadcasts, process);
-        self.dump.gone(process);
+        self.flags.remove(process);
         Ok(Answer::Aborted { task, cause })
     }
 }

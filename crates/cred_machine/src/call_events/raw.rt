@@ -13,7 +13,7 @@ use cred_decide::refusal_answer;
 use cred_dumpable::differs;
 use cred_event::Answer;
 use cred_ids::NoMemory;
-use cred_plain::casts::open_in;
+use cred_plain::broadcasts::open_in;
 use cred_record::{Cred, IdCall};
 
 impl State {
@@ -45,23 +45,23 @@ impl State {
             Ok(cred) => cred,
             Err(refusal) => return refusal_answer(refusal),
         };
-        let other = differs(old.cred, &cred);
+        let ids_changed = differs(old.cred, &cred);
         let number = old.number;
-        self.replace_alone(task, process, number, cred, other)
+        self.replace_alone(task, process, number, cred, ids_changed)
     }
 
     /// A task of the process has made this credential of its current one, of this number. That
-    /// takes a slot. `other` says that an effective or a filesystem id is another one in it.
+    /// takes a slot. `ids_changed` says that an effective or a filesystem id is another one in it.
     fn replace_alone(
         &mut self,
         task: u32,
         process: u32,
         old: u64,
         cred: Cred,
-        other: bool,
+        ids_changed: bool,
     ) -> Result<Answer, NoMemory>
         ensures ok { IfOk result (λ answer. in_slot self.old table_full
-            (λ s slot. called_alone s task process old cred other slot) ≡ (answer, self.new)) }
+            (λ s slot. called_alone s task process old cred ids_changed slot) ≡ (answer, self.new)) }
         ensures err { OnErr result (self.new ≡ self.old) }
     {
         let Room { slot, swept } = self.room()?;
@@ -69,7 +69,7 @@ impl State {
             return Ok(self.table_full());
         };
         let number = self.replace(task, old, cred, slot, swept)?;
-        self.dump.renew(process, other);
+        self.flags.renew(process, ids_changed);
         Ok(Answer::Sealed { cred: number, slot })
     }
 }

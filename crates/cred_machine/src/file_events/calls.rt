@@ -54,12 +54,12 @@ impl State {
         let Some(held) = self.held(hold) else {
             return Ok(Answer::NoHold(hold));
         };
-        let Some(old) = self.infos.file(file) else {
+        let Some(old) = self.inodes.file(file) else {
             return Ok(Answer::NoHold(hold));
         };
         match changed(event, held.cred, old) {
             Ok(new) => {
-                self.infos.replace(file, new);
+                self.inodes.replace(file, new);
                 Ok(Answer::Done)
             }
             Err(refusal) => refusal_answer(refusal),
@@ -73,7 +73,7 @@ impl State {
         let Some(_) = self.held(hold) else {
             return Answer::NoHold(hold);
         };
-        match self.infos.file(file) {
+        match self.inodes.file(file) {
             Some(info) => Answer::Told(Told::File {
                 owner: info.owner,
                 group: info.group,

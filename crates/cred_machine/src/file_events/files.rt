@@ -45,7 +45,7 @@ impl State {
                 number: fd,
             });
         }
-        if !may_open(&self.infos, cred, file, want) {
+        if !may_open(&self.inodes, cred, file, want) {
             return Ok(Answer::Eacces);
         }
         if self.files.len() >= limits::OPEN_FILES {

@@ -93,7 +93,12 @@ impl State {
             Gives self.now (by_ask self.now label query) answer self.now) }
     {
         match self.held(label) {
-            Some(held) => reply(self.alloc, asked_file(&self.infos, query), held.cred, query),
+            Some(held) => reply(
+                self.alloc,
+                asked_file(&self.inodes, query),
+                held.cred,
+                query,
+            ),
             None => Ok(Answer::NoHold(label)),
         }
     }

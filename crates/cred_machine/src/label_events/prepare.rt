@@ -15,9 +15,9 @@ use cred_decide::{Made, change as change_of, committed_by};
 use cred_declared::{chain_of, executed_file};
 use cred_event::{Answer, Change, Counted, Named};
 use cred_ids::{NoMemory, limits};
-use cred_plain::casts::{begun_by, drop_broadcast};
+use cred_plain::broadcasts::{begun_by, drop_broadcast};
 use cred_plain::labels::{change_at, hold_of, prepared_of, prepared_place};
-use cred_plain::{Cast, Changed, Ending, Numbered, Prepared};
+use cred_plain::{Broadcast, Changed, Ending, Numbered, Prepared};
 use cred_record::copy;
 use cred_script::Script;
 
@@ -103,7 +103,7 @@ impl State {
         let Some(Numbered { cred: base, .. }) = self.creds.get(label_of.base) else {
             return Ok(Answer::NoPrepared(label));
         };
-        let file = executed_file(&self.infos, change);
+        let file = executed_file(&self.inodes, change);
         let chain = chain_of(script, base.ns);
         let Made {
             answer,
@@ -186,7 +186,7 @@ impl State {
         let last = own.changed.as_ref().unwrap();
         let owner = self.tasks.get(own.task).unwrap();
         let (task, process, slot) = (own.task, owner.process, own.slot);
-        let other = differs_from(&self.creds, owner.current, &last.cred);
+        let ids_changed = differs_from(&self.creds, owner.current, &last.cred);
         let ending = ends_with(last.change, process, task);
         let ended = self.tasks.count(ending);
         let mut numbers = self.tasks.left(ending)?;
@@ -197,7 +197,8 @@ impl State {
         drop_with(&mut self.broadcasts, last.change, process);
         let number = self.creds.seal(cred, slot);
         self.tasks.set_current(task, number);
-        self.dump.commit(last.change, &last.gains, process, other);
+        self.flags
+            .commit(last.change, &last.gains, process, ids_changed);
         let answer = committed_by(last.change, &last.gains, number, slot, ended);
         drop(self.prepared.remove(place));
         Ok(answer)
@@ -247,7 +248,7 @@ fn ends_with(change: Change, process: u32, task: u32) -> Ending
 }
 
 /// The process's broadcast is dropped where one of its threads commits an execve (execve(2)).
-fn drop_with(broadcasts: &mut Vec<Cast>, change: Change, process: u32)
+fn drop_with(broadcasts: &mut Vec<Broadcast>, change: Change, process: u32)
     ensures { broadcasts.new.items ≡ broadcasts_left change process broadcasts.old.items }
 {
     if let Change::Exec { .. } = change {

@@ -9,7 +9,7 @@ use crate::slots::{Room, defer_left, sweep_if};
 use crate::state::{State, overridden};
 use cred_event::{Answer, Counted, Named};
 use cred_ids::{Id, NoMemory};
-use cred_plain::casts::{begun_by, join, leave, open_in};
+use cred_plain::broadcasts::{begun_by, join, leave, open_in};
 use cred_plain::{Ending, Numbered, Task};
 use cred_record::first;
 
@@ -54,7 +54,7 @@ impl State {
         let cred = first(self.alloc, user, group, ns, root)?;
         let next = self.creds.next_number();
         let task = Task::first(self.alloc, number, process, next);
-        processes::enter(&mut self.tasks, &mut self.dump, task)?;
+        processes::enter(&mut self.tasks, &mut self.flags, task)?;
         sweep_if(&mut self.deferred, swept);
         self.creds.seal(cred, slot);
         Ok(Answer::Sealed { cred: next, slot })
@@ -141,9 +141,9 @@ impl State {
         if self.tasks.full() {
             return Ok(Answer::TooMany(Counted::Tasks));
         }
-        let dumpable = self.dump.is_dumpable(owner.process);
+        let dumpable = self.flags.is_dumpable(owner.process);
         let thread = Task::first(self.alloc, child, process, number);
-        processes::begin_process(&mut self.tasks, &mut self.dump, thread, dumpable)?;
+        processes::begin_process(&mut self.tasks, &mut self.flags, thread, dumpable)?;
         Ok(Answer::Sealed { cred: number, slot })
     }
 
@@ -169,12 +169,12 @@ impl State {
             return Ok(Answer::Overridden(depth));
         }
         let process = owner.process;
-        let other = self.tasks.has_other(process, task);
+        let has_other = self.tasks.has_other(process, task);
         let ending = Ending::Task(task);
         defer_left(&mut self.deferred, false, &self.tasks, ending)?;
         self.tasks.end(ending);
         leave(&mut self.broadcasts, task);
-        self.dump.leave(process, other);
+        self.flags.leave(process, has_other);
         Ok(Answer::Done)
     }
 }

@@ -6,7 +6,7 @@ use crate::state::State;
 use cred_access::may_trace;
 use cred_dumpable::flag_of_value;
 use cred_event::{Answer, Told};
-use cred_record::Mode;
+use cred_record::PtraceMode;
 use cred_script::Script;
 
 impl State {
@@ -21,7 +21,7 @@ impl State {
         let Some(dumpable) = flag_of_value(value) else {
             return Answer::Einval;
         };
-        self.dump.set(owner.process, dumpable);
+        self.flags.set(owner.process, dumpable);
         Answer::Done
     }
 
@@ -30,7 +30,7 @@ impl State {
         ensures { Gives self.now (by_dumped self.now task) result self.now }
     {
         match self.tasks.get(task) {
-            Some(owner) => Answer::Told(Told::Flag(self.dump.is_dumpable(owner.process))),
+            Some(owner) => Answer::Told(Told::Flag(self.flags.is_dumpable(owner.process))),
             None => Answer::NoTask(task),
         }
     }
@@ -44,7 +44,7 @@ impl State {
         hold: u32,
         to: u32,
         target: u32,
-        mode: Mode,
+        mode: PtraceMode,
     ) -> Answer
         ensures { Gives self.now (by_ptrace script.now self.now from hold to target mode)
             result self.now }
@@ -65,7 +65,7 @@ impl State {
         let asked = other.cred;
         let same = sender.process == receiver.process;
         let reach = script.reaches(asker.ns, asked.ns);
-        let dumpable = self.dump.is_dumpable(receiver.process);
+        let dumpable = self.flags.is_dumpable(receiver.process);
         if may_trace(asker, asked, same, reach, dumpable, mode) {
             Answer::Done
         } else {

@@ -9,10 +9,10 @@ use Rattle.cred_names.specs.Labels.{event_labels}
 use Rattle.cred_hold.specs.Tokens as lent
 use Rattle.cred_tables.specs.Kept.{Words}
 use Rattle.cred_tables.specs.Out.{AreHome, AreOut}
-use Rattle.cred_tables.proofs.Outs.{IsToken}
+use Rattle.cred_tables.proofs.TokensOfLabels.{IsToken}
 use Rattle.cred_model.specs.Course.{after}
 use Rattle.cred_commands.proofs.Pushed.{pushed_there}
-use Rattle.cred_commands.proofs.Goes.{goes_first, goes_sound, goes_by, goes_out}
+use Rattle.cred_commands.proofs.RunningLine.{goes_first, goes_sound, goes_by, goes_out}
 use Rattle.cred_commands.proofs.line.run_line.Goals as goal
 
 pub events-init : goal.events-init
@@ -55,10 +55,10 @@ events-smaller c =
     pushed_there _ _ (record { line = c.args.past + 1; event = c.in-Some-2.event; answer = c.in_ok-step.field-0 }) c.index.result.now _
     c.push_reserved.ensures.items (c.len-place.ensures ∙ c.reserve.new.self.ok.0) c.index.ensures in
     (goes_by c.args.script.now c.args.past c.args.state.now.state c.events.state.state c.step.new.self.state c.args.entries.now.items c.events.entries.items
-    c.push_reserved.new.self.items c.in-Some.content.now c.events.course c.took.new.self c.in-Some-2.event (c.args.past + 1) c.in_ok-step.field-0
+    c.push_reserved.new.self.items c.in-Some.content.now c.events.course c.advance.new.self c.in-Some-2.event (c.args.past + 1) c.in_ok-step.field-0
     c.requires.run c.events.invariant.0
     (sym c.in_ok-event.ensures.ended ∙ ap is_some c.in-Some-2.is) (sym c.in_ok-event.ensures.event ∙ c.in-Some-2.is) refl
-    c.in_ok-step.ensures.ok (c.took.ensures.after ∙ ap (λ (e : Entry). after c.in-Some.content.now c.events.course e.answer) there)
+    c.in_ok-step.ensures.ok (c.advance.ensures.after ∙ ap (λ (e : Entry). after c.in-Some.content.now c.events.course e.answer) there)
     (c.push_reserved.ensures.items
     ∙ ap (λ (js : List Entry). js ++ record { line = c.args.past + 1; event = c.in-Some-2.event; answer = c.in_ok-step.field-0 } ∷ [])
     c.in_ok-reserve.ensures.items)).falls
@@ -69,10 +69,10 @@ events-preserved c =
     pushed_there _ _ (record { line = c.args.past + 1; event = c.in-Some-2.event; answer = c.in_ok-step.field-0 }) c.index.result.now _
     c.push_reserved.ensures.items (c.len-place.ensures ∙ c.reserve.new.self.ok.0) c.index.ensures in (
       (goes_by c.args.script.now c.args.past c.args.state.now.state c.events.state.state c.step.new.self.state c.args.entries.now.items c.events.entries.items
-          c.push_reserved.new.self.items c.in-Some.content.now c.events.course c.took.new.self c.in-Some-2.event (c.args.past + 1) c.in_ok-step.field-0
+          c.push_reserved.new.self.items c.in-Some.content.now c.events.course c.advance.new.self c.in-Some-2.event (c.args.past + 1) c.in_ok-step.field-0
           c.requires.run c.events.invariant.0
           (sym c.in_ok-event.ensures.ended ∙ ap is_some c.in-Some-2.is) (sym c.in_ok-event.ensures.event ∙ c.in-Some-2.is) refl
-          c.in_ok-step.ensures.ok (c.took.ensures.after ∙ ap (λ (e : Entry). after c.in-Some.content.now c.events.course e.answer) there)
+          c.in_ok-step.ensures.ok (c.advance.ensures.after ∙ ap (λ (e : Entry). after c.in-Some.content.now c.events.course e.answer) there)
           (c.push_reserved.ensures.items
           ∙ ap (λ (js : List Entry). js ++ record { line = c.args.past + 1; event = c.in-Some-2.event; answer = c.in_ok-step.field-0 } ∷ [])
           c.in_ok-reserve.ensures.items)).goes,

@@ -11,7 +11,7 @@ ghost use Rattle.cred_model.specs.Like.{GivesLike};
 ghost use Rattle.cred_model.specs.CallEvents.{aborted, by_act};
 ghost use Rattle.cred_model.specs.Moves.{at_abort};
 ghost use Rattle.cred_sound.specs.Sound.{IsSound};
-ghost use Rattle.cred_cast.specs.Broadcasts.{MakesOf};
+ghost use Rattle.cred_broadcasts.specs.Broadcasts.{MakesOf};
 ghost use Rattle.cred_hold.specs.Tokens.{IsAlone, IsSealed};
 ghost use Rattle.cred_tables.specs.Begin.{ActsNext};
 ghost use Rattle.cred_tables.specs.Kept.{cred_under, seen_in, IsInUse};
@@ -20,7 +20,7 @@ ghost use Rattle.cred_setid.specs.Parts.{PartsBecome, parts_of};
 ghost use Rattle.cred_state.specs.Replacements.{replacement, HasValidSets};
 
 use crate::state::State;
-use cred_cast::{Casts, LastStep};
+use cred_broadcasts::{Broadcasts, LastStep};
 use cred_dumpable::differs_by;
 use cred_event::{AbortCause, Answer};
 use cred_hold::{Cells, Master};
@@ -28,7 +28,7 @@ use cred_ids::{Groups, NoMemory};
 use cred_packed::Head;
 use cred_record::Refusal;
 use cred_setid::{IdParts, apply_parts};
-use cred_tables::{Numbered, drop_all, renew_in, seal_next, sweep_at};
+use cred_tables::{NumberedSlot, drop_all, renew_in, seal_next, sweep_at};
 
 /// A broadcast by its place among the open ones, the least thread that waits in it, that thread's
 /// place among the tasks, and its current credential.
@@ -37,7 +37,7 @@ struct Next {
     broadcast: usize,
     task: u32,
     place: usize,
-    now: Numbered,
+    now: NumberedSlot,
 }
 
 /// The words that the call makes of a thread's credential, and whether an effective or a filesystem
@@ -123,7 +123,7 @@ impl State {
 
     /// The words of the credential that was found. `None` exactly where it has groups. Something
     /// refers to it.
-    fn read_head(&mut self, cells: &Cells, found: Numbered) -> Option<Head>
+    fn read_head(&mut self, cells: &Cells, found: NumberedSlot) -> Option<Head>
         requires own { self.old.words.id ≡ cells.now }
         requires found { numbered self.old.state.creds found.number
             ≡ Some (seen_in self.old.state.creds found) }
@@ -212,7 +212,7 @@ impl State {
         let Some(slot) = self.slots.free_slot() else {
             return self.end_process_of(next.task, AbortCause::Full);
         };
-        renew_in(&self.tasks, &mut self.dump, next.task, ids_changed);
+        renew_in(&self.tasks, &mut self.flags, next.task, ids_changed);
         let new = seal_next(&mut self.slots, slot);
         put_over(&mut self.master, cells, next.now.slot, slot, by);
         keep_step(
@@ -280,8 +280,8 @@ impl State {
         let ended = self.tasks.end_process(process)?;
         sweep_at(&mut self.slots, cause);
         drop_all(&mut self.slots, ended.numbers.items());
-        self.broadcasts.dropped(process);
-        self.dump.gone(process);
+        self.broadcasts.drop_in(process);
+        self.flags.remove(process);
         Ok(Answer::Aborted { task, cause })
     }
 }
@@ -314,7 +314,7 @@ fn put_over(master: &mut Master, cells: &Cells, from: u32, slot: u32, by: &Repla
 #[inline(always)]
 fn keep_step(
     master: &mut Master,
-    broadcasts: &mut Casts,
+    broadcasts: &mut Broadcasts,
     cells: &Cells,
     place: usize,
     before: Option<Head>,

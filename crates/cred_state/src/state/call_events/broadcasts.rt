@@ -26,7 +26,7 @@ use cred_hold::Cells;
 use cred_ids::{Groups, NoMemory};
 use cred_record::IdCall;
 use cred_setid::{IdParts, apply_parts};
-use cred_tables::{Numbered, begin_in};
+use cred_tables::{NumberedSlot, begin_in};
 
 impl State {
     /// A task makes an id call. The other threads of its process then wait for their step; where it
@@ -62,8 +62,8 @@ impl State {
         let old = parts;
         match apply_parts(self.alloc, &mut parts, call) {
             Ok(groups) => {
-                let other = differs_by(&old.uid, &old.gid, &parts.uid, &parts.gid);
-                self.begin_with(cells, line, task, call, now, &parts, &groups, other)
+                let ids_changed = differs_by(&old.uid, &old.gid, &parts.uid, &parts.gid);
+                self.begin_with(cells, line, task, call, now, &parts, &groups, ids_changed)
             }
             Err(refusal) => refusal_answer(refusal),
         }
@@ -71,7 +71,7 @@ impl State {
 
     /// What an id call looks at of the credential that was found. Something refers to it.
     #[inline(always)]
-    pub(crate) fn read_parts(&mut self, cells: &Cells, found: Numbered) -> IdParts
+    pub(crate) fn read_parts(&mut self, cells: &Cells, found: NumberedSlot) -> IdParts
         requires own { self.old.words.id ≡ cells.now }
         requires found { numbered self.old.state.creds found.number
             ≡ Some (seen_in self.old.state.creds found) }
@@ -84,7 +84,7 @@ impl State {
     }
 
     /// The call of a task that may make it, which gives the task's current credential these parts,
-    /// and these groups where it sets them. `other` says that an effective or a filesystem id is
+    /// and these groups where it sets them. `ids_changed` says that an effective or a filesystem id is
     /// another one in these: then the task's process is no longer dumpable.
     fn begin_with(
         &mut self,
@@ -92,10 +92,10 @@ impl State {
         line: u32,
         task: u32,
         call: &IdCall,
-        now: Numbered,
+        now: NumberedSlot,
         parts: &IdParts,
         groups: &Option<Groups>,
-        other: bool,
+        ids_changed: bool,
     ) -> Result<Answer, NoMemory>
         requires own { self.old.words.id ≡ cells.now }
         requires out { AreOut self.old.state self.old.words.out }
@@ -105,8 +105,8 @@ impl State {
             set_id c call.now ≡ Ok (changed c parts.now groups.now) }
         requires valid { let c = cred_under self.old.state.creds now.number in
             AreValidSets parts.now.perm c.inh parts.now.eff parts.now.amb }
-        requires other { let c = cred_under self.old.state.creds now.number in
-            other ≡ differs c (changed c parts.now groups.now) }
+        requires ids_changed { let c = cred_under self.old.state.creds now.number in
+            ids_changed ≡ differs c (changed c parts.now groups.now) }
         ensures ok { IfOk result (λ answer.
             GivesLike self.old.state (by_begin self.old.state line task call.now) answer
             self.new.state) }
@@ -122,7 +122,7 @@ impl State {
         let left = begin_in(&self.tasks, &mut self.broadcasts, line, task, call)?;
         let number = replace_in(
             &mut self.tasks,
-            &mut self.dump,
+            &mut self.flags,
             &mut self.slots,
             &mut self.master,
             cells,
@@ -131,7 +131,7 @@ impl State {
             now,
             parts,
             groups,
-            other,
+            ids_changed,
         );
         Ok(Answer::Began {
             cred: number,
@@ -142,7 +142,7 @@ impl State {
 
     /// The current credential of a task that makes an id call. `Err` with what refuses the call
     /// before its own rule is applied.
-    fn may_begin(&self, line: u32, task: u32) -> Result<Numbered, Answer>
+    fn may_begin(&self, line: u32, task: u32) -> Result<NumberedSlot, Answer>
         ensures { MatchResult result
             (λ now. MayBegin self.now.state line task (seen_in self.now.state.creds now))
             (λ answer. (call : Call) →

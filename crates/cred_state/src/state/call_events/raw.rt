@@ -22,7 +22,7 @@ use cred_hold::Cells;
 use cred_ids::{Groups, NoMemory};
 use cred_record::IdCall;
 use cred_setid::{IdParts, apply_parts};
-use cred_tables::Numbered;
+use cred_tables::NumberedSlot;
 
 impl State {
     /// A task makes an id call for itself alone: nobody waits, and no other thread of its process
@@ -57,24 +57,24 @@ impl State {
         let old = parts;
         match apply_parts(self.alloc, &mut parts, call) {
             Ok(groups) => {
-                let other = differs_by(&old.uid, &old.gid, &parts.uid, &parts.gid);
-                self.raw_with(cells, task, now, &parts, &groups, other)
+                let ids_changed = differs_by(&old.uid, &old.gid, &parts.uid, &parts.gid);
+                self.raw_with(cells, task, now, &parts, &groups, ids_changed)
             }
             Err(refusal) => refusal_answer(refusal),
         }
     }
 
     /// The call of a task that may make it, which gives the task's current credential these parts,
-    /// and these groups where it sets them. `other` says that an effective or a filesystem id is
+    /// and these groups where it sets them. `ids_changed` says that an effective or a filesystem id is
     /// another one in these: then the task's process is no longer dumpable.
     fn raw_with(
         &mut self,
         cells: &Cells,
         task: u32,
-        now: Numbered,
+        now: NumberedSlot,
         parts: &IdParts,
         groups: &Option<Groups>,
-        other: bool,
+        ids_changed: bool,
     ) -> Result<Answer, NoMemory>
         requires own { self.old.words.id ≡ cells.now }
         requires out { AreOut self.old.state self.old.words.out }
@@ -82,8 +82,8 @@ impl State {
         requires may { MayCallAlone self.old.state task (seen_in self.old.state.creds now) }
         requires valid { let c = cred_under self.old.state.creds now.number in
             AreValidSets parts.now.perm c.inh parts.now.eff parts.now.amb }
-        requires other { let c = cred_under self.old.state.creds now.number in
-            other ≡ differs c (changed c parts.now groups.now) }
+        requires ids_changed { let c = cred_under self.old.state.creds now.number in
+            ids_changed ≡ differs c (changed c parts.now groups.now) }
         ensures ok { (call : Call)
             → (let c = cred_under self.old.state.creds now.number in
             set_id c call ≡ Ok (changed c parts.now groups.now))
@@ -99,7 +99,7 @@ impl State {
         };
         let cred = replace_in(
             &mut self.tasks,
-            &mut self.dump,
+            &mut self.flags,
             &mut self.slots,
             &mut self.master,
             cells,
@@ -108,14 +108,14 @@ impl State {
             now,
             parts,
             groups,
-            other,
+            ids_changed,
         );
         Ok(Answer::Sealed { cred, slot })
     }
 
     /// The current credential of a task that makes an id call for itself alone. `Err` with what
     /// refuses the call before its own rule is applied.
-    fn may_call_alone(&self, task: u32) -> Result<Numbered, Answer>
+    fn may_call_alone(&self, task: u32) -> Result<NumberedSlot, Answer>
         ensures { MatchResult result
             (λ now. MayCallAlone self.now.state task (seen_in self.now.state.creds now))
             (λ answer. (call : Call) →

@@ -46,7 +46,7 @@ impl State {
         let Some(cred) = self.read_held(cells, hold)? else {
             return Ok(Answer::NoHold(hold));
         };
-        let Some(file) = self.infos().file(place) else {
+        let Some(file) = self.inodes().file(place) else {
             return Ok(Answer::NoHold(hold));
         };
         let made = chown(&cred, file, owner, group);
@@ -79,7 +79,7 @@ impl State {
         let Some(cred) = self.read_held(cells, hold)? else {
             return Ok(Answer::NoHold(hold));
         };
-        let Some(file) = self.infos().file(place) else {
+        let Some(file) = self.inodes().file(place) else {
             return Ok(Answer::NoHold(hold));
         };
         let made = chmod(&cred, file, mode);
@@ -114,7 +114,7 @@ impl State {
         let Some(cred) = self.read_held(cells, hold)? else {
             return Ok(Answer::NoHold(hold));
         };
-        let Some(file) = self.infos().file(place) else {
+        let Some(file) = self.inodes().file(place) else {
             return Ok(Answer::NoHold(hold));
         };
         let made = set_attr(&cred, file, attr);
@@ -130,7 +130,7 @@ impl State {
         let Some(_) = self.held(hold) else {
             return Answer::NoHold(hold);
         };
-        let Some(file) = self.infos().file(place) else {
+        let Some(file) = self.inodes().file(place) else {
             return Answer::NoHold(hold);
         };
         Answer::Told(Told::File {
@@ -165,11 +165,11 @@ impl State {
     ///
     /// `NoMemory` where there was none for what the rule makes: the state is as it was.
     fn put_file(&mut self, place: u32, made: Result<FileInfo, Refusal>) -> Result<Answer, NoMemory>
-        requires there { place < length self.old.state.infos }
+        requires there { place < length self.old.state.inodes }
         ensures ok { (hold : ℕ) (rule : Credential → File → Result File Denial)
             (c : Credential) (file : File)
             → option_map (λ held. held.cred) (held_by self.old.state hold) ≡ Some c
-            → slice_get self.old.state.infos place ≡ Some file
+            → slice_get self.old.state.inodes place ≡ Some file
             → AnswersBy made (rule c file)
             → IfOk result (λ answer.
             Gives self.old.state (by_file self.old.state hold place rule) answer self.new.state) }
@@ -178,7 +178,7 @@ impl State {
     {
         match made {
             Ok(file) => {
-                self.infos.replace(place, file);
+                self.inodes.replace(place, file);
                 Ok(Answer::Done)
             }
             Err(refusal) => refusal_answer(refusal),

@@ -29,7 +29,7 @@ impl State {
             (λ opener. MayOpen self.now.state label fd opener may)
             (λ answer. (file : ℕ) (want : Wanted)
             → IfSome (held_by self.now.state label) (λ held.
-            checked held.cred (info_of self.now.state.infos (file ∷ [])) want
+            checked held.cred (info_of self.now.state.inodes (file ∷ [])) want
             ≡ (if may then Done else Eacces))
             → Gives self.now.state (by_open self.now.state label file want fd) answer
             self.now.state) }
@@ -123,7 +123,7 @@ impl State {
             cells,
             &NoPause,
             &mut hold,
-            self.infos().file(file),
+            self.inodes().file(file),
             want,
         );
         self.take_hold_back(cells, hold);

@@ -14,7 +14,7 @@ use cred_declared::asked_file;
 use cred_event::{Answer, Counted, Event, Named, Query, Side};
 use cred_hold::Cells;
 use cred_ids::{NoMemory, limits};
-use cred_tables::Numbered;
+use cred_tables::NumberedSlot;
 use cred_work::{NoPause, decide};
 
 impl State {
@@ -32,7 +32,7 @@ impl State {
         ensures err { OnErr result (self.new ≡ self.old) }
         ensures words { self.new.words ≡ self.old.words }
     {
-        let Some(Numbered { number, slot }) = self.credential(task, side) else {
+        let Some(NumberedSlot { number, slot }) = self.credential(task, side) else {
             return Ok(Answer::NoTask(task));
         };
         self.take_hold(label, number, slot)
@@ -111,7 +111,7 @@ impl State {
             &NoPause,
             &mut hold,
             query,
-            asked_file(self.infos(), query),
+            asked_file(self.inodes(), query),
         );
         self.take_hold_back(cells, hold);
         told
@@ -130,14 +130,14 @@ impl State {
         ensures err { OnErr result (self.new ≡ self.old) }
         ensures words { self.new.words ≡ self.old.words }
     {
-        let Some(Numbered { number, slot }) = self.opener(fd) else {
+        let Some(NumberedSlot { number, slot }) = self.opener(fd) else {
             return Ok(Answer::Ebadf);
         };
         self.take_hold(label, number, slot)
     }
 
     /// The credential that the file of a descriptor was opened by.
-    fn opener(&self, fd: u32) -> Option<Numbered>
+    fn opener(&self, fd: u32) -> Option<NumberedSlot>
         ensures { option_map (seen_in self.now.state.creds) result ≡ opener_of self.now.state fd }
     {
         let number = self.files.opener(fd)?;

@@ -13,7 +13,7 @@ ghost use Rattle.cred_tables.specs.Out.{AreHome, AreOut};
 use crate::state::State;
 use cred_event::Answer;
 use cred_ids::NoMemory;
-use cred_tables::{Numbered, seal_kept};
+use cred_tables::{NumberedSlot, seal_kept};
 
 impl State {
     /// A task acts with another credential from now on (Linux's `override_creds`;
@@ -37,7 +37,7 @@ impl State {
         if !self.tasks.alive(task) {
             return Ok(Answer::NoTask(task));
         }
-        let Some(Numbered { number, slot }) = self.held(label) else {
+        let Some(NumberedSlot { number, slot }) = self.held(label) else {
             return self.override_prepared(task, label);
         };
         self.slots.reserve()?;

@@ -22,7 +22,7 @@ use cred_hold::Cells;
 use cred_ids::{NoMemory, limits};
 use cred_script::Script;
 use cred_tables::{
-    GivenUp, Numbered, Preparation, Ready, drop_all, drop_broadcast, end_with, seal_kept,
+    GivenUp, NumberedSlot, Preparation, Ready, drop_all, drop_broadcast, end_with, seal_kept,
 };
 use cred_work::alter;
 
@@ -148,12 +148,12 @@ impl State {
             self.abort(label);
             return Ok(Answer::Stale { base, now });
         }
-        let other = self.changes_ids(cells, label, task);
-        self.commit_ready(label, task, now, change, other)
+        let ids_changed = self.changes_ids(cells, label, task);
+        self.commit_ready(label, task, now, change, ids_changed)
     }
 
     /// What the label prepared becomes the current credential of its task, whose current one is the
-    /// base. `other` says whether an effective or a filesystem id is another one in it.
+    /// base. `ids_changed` says whether an effective or a filesystem id is another one in it.
     ///
     /// # Errors
     ///
@@ -165,7 +165,7 @@ impl State {
         task: u32,
         now: u64,
         change: Change,
-        other: bool,
+        ids_changed: bool,
     ) -> Result<Answer, NoMemory>
         requires out { AreOut self.old.state self.old.words.out }
         requires home { AreHome (Commit label) self.old.words.out }
@@ -175,9 +175,9 @@ impl State {
         requires idle { not_busy (begun_by self.old.state task) ≡ Ok tt }
         requires allowed { IfSome (task_of self.old.state task) (λ owner.
             not_overridden owner ≡ Ok tt) }
-        requires other { (last : Changed)
+        requires ids_changed { (last : Changed)
             → changed_of self.old.state.prepared label ≡ Some last
-            → other ≡ differs_from self.old.state task last }
+            → ids_changed ≡ differs_from self.old.state task last }
         ensures ok { IfOk result (λ answer.
             GivesLike self.old.state (by_commit self.old.state label) answer self.new.state) }
         ensures err { OnErr result (self.new ≡ self.old) }
@@ -191,7 +191,8 @@ impl State {
         self.slots.drop_later(now);
         let (kept, last) = self.prepared.finish(label);
         drop_broadcast(&mut self.broadcasts, last.change, process);
-        self.dump.commit(last.change, &last.gains, process, other);
+        self.flags
+            .commit(last.change, &last.gains, process, ids_changed);
         // What was prepared is in the words of its slot already.
         let number = seal_kept(&mut self.slots, kept);
         self.tasks.set_current(task, number);
@@ -215,7 +216,7 @@ impl State {
     }
 
     /// The base of a label. `None` where the label isn't prepared.
-    pub(crate) fn base(&self, label: u32) -> Option<Numbered>
+    pub(crate) fn base(&self, label: u32) -> Option<NumberedSlot>
         ensures { option_map (seen_in self.now.state.creds) result
             ≡ option_and_then (λ p. numbered self.now.state.creds p.base)
             (prepared_of self.now.state label) }
@@ -252,7 +253,7 @@ impl State {
         let Some((mut base, mut writer)) = self.lend_kept(cells, label) else {
             return Ok(Answer::NoPrepared(label));
         };
-        let file = executed_file(self.infos(), change);
+        let file = executed_file(self.inodes(), change);
         let chain = chain_of(script, ns);
         match alter(
             self.alloc,

@@ -20,7 +20,7 @@ use cred_event::{Answer, Counted, Named};
 use cred_hold::Cells;
 use cred_ids::{Id, NoMemory};
 use cred_record::{Cred, first};
-use cred_tables::{Numbered, drop_all, exit_in, fork_in, seal_next, spawn_in, start_in};
+use cred_tables::{NumberedSlot, drop_all, exit_in, fork_in, seal_next, spawn_in, start_in};
 
 impl State {
     /// A first task is created, with its first credential, in a namespace where root has the user
@@ -101,7 +101,7 @@ impl State {
         };
         // The task is entered before its credential is sealed, since that may take memory.
         let next = self.slots.next_number();
-        start_in(&mut self.tasks, &mut self.dump, number, process, next)?;
+        start_in(&mut self.tasks, &mut self.flags, number, process, next)?;
         let current = seal_next(&mut self.slots, slot);
         self.master.set(cells, slot, cred);
         Ok(Answer::Sealed {
@@ -124,7 +124,7 @@ impl State {
         ensures err { OnErr result (self.new ≡ self.old) }
         ensures words { self.new.words ≡ self.old.words }
     {
-        let Numbered { number, slot } = match self.may_create(task, child, None) {
+        let NumberedSlot { number, slot } = match self.may_create(task, child, None) {
             Ok(now) => now,
             Err(answer) => return Ok(answer),
         };
@@ -149,19 +149,24 @@ impl State {
         ensures err { OnErr result (self.new ≡ self.old) }
         ensures words { self.new.words ≡ self.old.words }
     {
-        let Numbered { number, slot } = match self.may_create(task, child, Some(process)) {
+        let NumberedSlot { number, slot } = match self.may_create(task, child, Some(process)) {
             Ok(now) => now,
             Err(answer) => return Ok(answer),
         };
         self.slots.reserve()?;
-        fork_in(&mut self.tasks, &mut self.dump, task, child, process)?;
+        fork_in(&mut self.tasks, &mut self.flags, task, child, process)?;
         self.slots.add(number);
         Ok(Answer::Sealed { cred: number, slot })
     }
 
     /// The current credential of a task that may create another, as a thread of its own process or
     /// as the first of a new one. `Err` with what refuses it.
-    fn may_create(&self, task: u32, child: u32, process: Option<u32>) -> Result<Numbered, Answer>
+    fn may_create(
+        &self,
+        task: u32,
+        child: u32,
+        process: Option<u32>,
+    ) -> Result<NumberedSlot, Answer>
         ensures { MatchResult result
             (λ now. MayCreate self.now.state task child (seen_in self.now.state.creds now)
             × IsUnusedProcess self.now.state process)
@@ -230,9 +235,9 @@ impl State {
         if let Some(depth) = self.overridden(task) {
             return Ok(Answer::Overridden(depth));
         }
-        let numbers = exit_in(&mut self.tasks, &mut self.dump, task)?;
+        let numbers = exit_in(&mut self.tasks, &mut self.flags, task)?;
         drop_all(&mut self.slots, numbers.items());
-        self.broadcasts.gone(task);
+        self.broadcasts.remove_task(task);
         Ok(Answer::Done)
     }
 }

@@ -16,9 +16,9 @@ use cred_dumpable::{differs_by, flag_of_value};
 use cred_event::{Answer, Told};
 use cred_hold::Cells;
 use cred_ids::Ids4;
-use cred_record::Mode;
+use cred_record::PtraceMode;
 use cred_script::Script;
-use cred_tables::Numbered;
+use cred_tables::NumberedSlot;
 
 impl State {
     /// A task makes its process dumpable, or not (prctl(2), PR_SET_DUMPABLE). `NoTask`, and
@@ -34,7 +34,7 @@ impl State {
         let Some(dumpable) = flag_of_value(value) else {
             return Answer::Einval;
         };
-        self.dump.set(process, dumpable);
+        self.flags.set(process, dumpable);
         Answer::Done
     }
 
@@ -43,7 +43,7 @@ impl State {
         ensures { Gives self.now.state (by_dumped self.now.state task) result self.now.state }
     {
         match self.tasks.process_of(task) {
-            Some(process) => Answer::Told(Told::Flag(self.dump.is_dumpable(process))),
+            Some(process) => Answer::Told(Told::Flag(self.flags.is_dumpable(process))),
             None => Answer::NoTask(task),
         }
     }
@@ -58,7 +58,7 @@ impl State {
         hold: u32,
         to: u32,
         target: u32,
-        mode: Mode,
+        mode: PtraceMode,
     ) -> Answer
         requires own { self.old.words.id ≡ cells.now }
         ensures made { Gives self.old.state
@@ -77,7 +77,7 @@ impl State {
         let Some(other) = self.held(target) else {
             return Answer::NoHold(target);
         };
-        let dumpable = self.dump.is_dumpable(receiver);
+        let dumpable = self.flags.is_dumpable(receiver);
         let asker = self.read_seen(cells, own);
         let seen = self.read_seen(cells, other);
         let reach = script.reaches(asker.ns, seen.ns);
@@ -89,7 +89,7 @@ impl State {
     }
 
     /// What that check looks at of the credential that was found. Something refers to it.
-    fn read_seen(&mut self, cells: &Cells, found: Numbered) -> Seen
+    fn read_seen(&mut self, cells: &Cells, found: NumberedSlot) -> Seen
         requires own { self.old.words.id ≡ cells.now }
         requires found { numbered self.old.state.creds found.number
             ≡ Some (seen_in self.old.state.creds found) }
@@ -112,7 +112,7 @@ impl State {
     /// the label prepared than in its task's current credential.
     pub(crate) fn changes_ids(&mut self, cells: &Cells, label: u32, task: u32) -> bool
         requires own { self.old.words.id ≡ cells.now }
-        ensures other { (last : Changed)
+        ensures ids_changed { (last : Changed)
             → changed_of self.old.state.prepared label ≡ Some last
             → result ≡ differs_from self.old.state task last }
         ensures same { self.new ≡ self.old }

@@ -8,7 +8,7 @@ use Rattle.cred_script.specs.Lines.{line_at}
 use Rattle.cred_course.specs.Cursor.{MovesOnTo}
 use Rattle.cred_tables.specs.Kept.{Words}
 use Rattle.cred_tables.specs.Out.{AreHome, AreOut}
-use Rattle.cred_tables.proofs.Outs.{out_like}
+use Rattle.cred_tables.proofs.TokensOfLabels.{out_like}
 use Rattle.cred_book.specs.Book.{Recorded, answer_of}
 use Rattle.cred_book.proofs.Entered.{all_grown, follows_sound, replays, enters, out_after}
 use Rattle.cred_book.proofs.book.Book.enter.Goals as goal

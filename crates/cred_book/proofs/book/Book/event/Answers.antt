@@ -4,7 +4,7 @@ use Rattle.cred_event.specs.declared.entry.Entry.{Entry}
 use Rattle.cred_model.specs.Journal.{replay}
 use Rattle.cred_tables.specs.Kept.{Words}
 use Rattle.cred_tables.specs.Out.{AreHome, AreOut}
-use Rattle.cred_tables.proofs.Outs.{out_like}
+use Rattle.cred_tables.proofs.TokensOfLabels.{out_like}
 use Rattle.cred_book.specs.Book.{Recorded, answer_of}
 use Rattle.cred_book.proofs.Entered.{all_grown, follows_sound, replays, enters, left_out, out_after}
 use Rattle.cred_book.proofs.book.Book.event.Goals as goal
@@ -70,4 +70,4 @@ returns-clause-answer c =
     c.in-Ok-copy_answer.ensures.equal ∙ sym made.answers ∙ ap (λ (r : Recorded). answer_of r c.args.line c.args.event) c.self.view_is
 
 pub returns-in_default-copy_answer-clause-in_place : goal.returns-in_default-copy_answer-clause-in_place
-returns-in_default-copy_answer-clause-in_place c = c.stands-in_default-copy_answer.ensures
+returns-in_default-copy_answer-clause-in_place c = c.check_in_place-in_default-copy_answer.ensures

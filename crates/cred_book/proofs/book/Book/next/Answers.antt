@@ -14,13 +14,13 @@ use Rattle.cred_course.proofs.Turns.{lane_has_place}
 use Rattle.cred_work.specs.Work.{Work}
 use Rattle.cred_tables.specs.Kept.{Words}
 use Rattle.cred_tables.specs.Out.{AreHome, needs_tokens}
-use Rattle.cred_book.specs.Book.{Recorded, answer_of, infos_in}
+use Rattle.cred_book.specs.Book.{Recorded, answer_of, inodes_in}
 use Rattle.cred_book.specs.Cursor.{BookStands, moved_on}
 use Rattle.cred_book.specs.Works.{GoesOut, IsHanded, with_work}
 use Rattle.cred_book.proofs.Cursors.{due_counts, due_found, due_goes_on, due_makes, due_of_line, lane_has_out, none_counted, none_made}
 use Rattle.cred_book.proofs.Handed.{EntersMore, HandsOut, enters_more, hands_out, made_event, put_in}
-use Rattle.cred_book.proofs.Lent.{next_home}
-use Rattle.cred_book.proofs.Nexts.{event_of, next_is}
+use Rattle.cred_book.proofs.LentTokens.{next_home}
+use Rattle.cred_book.proofs.NextEvents.{event_of, next_is}
 use Rattle.cred_book.proofs.Places.{all_home}
 use Rattle.cred_book.proofs.Works.{GoesOn}
 use Rattle.cred_book.proofs.book.Book.next.Goals as goal
@@ -38,7 +38,7 @@ returns-in_default c =
       made = none_made book c.args.lane c.requires.stands none;
       falls = λ more. cc;
       counts = none_counted book c.args.lane c.requires.stands none;
-      in_place = c.stands.ensures;
+      in_place = c.check_in_place.ensures;
       home = all_home book c.requires.stands;
       files = λ other. refl;
       err = tt;
@@ -64,7 +64,7 @@ hand_out-requires-clause-home c =
     let has : event_of book.script course ≡ Some c.in-Some-2.event
     = made_event _ book course _ _ c.self.view_is c.in_ok-event.ensures.event c.in-Some-2.is in
     next_home book c.args.lane (record { line = course.line; event = c.in-Some-2.event }) c.requires.stands c.requires.home
-    (next_is book.script book.journal book.cursors c.args.lane course c.in-Some-2.event c.requires.stands.cursors here has)
+    (next_is book.script book.journal book.cursors c.args.lane course c.in-Some-2.event c.requires.check_in_place.cursors here has)
 
 pub hand_out-requires-clause-place : goal.hand_out-requires-clause-place
 hand_out-requires-clause-place c =
@@ -108,9 +108,9 @@ returns-in-Some-3 c =
       made = r.made;
       falls = λ more. cc;
       counts = r.counts;
-      in_place = c.stands-in-Some-3.ensures;
+      in_place = c.check_in_place-in-Some-3.ensures;
       home = all_home after r.stands;
-      files = λ other. ap infos_in goes.lent;
+      files = λ other. ap inodes_in goes.lent;
       err = tt;
     }
 
@@ -145,7 +145,7 @@ enter-requires-clause-home c =
     = made_event _ book course _ _ c.self.view_is c.in_ok-event.ensures.event c.in-Some-2.is in
     let home : AreHome c.in-Some-2.event book.words.out
     = next_home book c.args.lane (record { line = course.line; event = c.in-Some-2.event }) c.requires.stands c.requires.home
-    (next_is book.script book.journal book.cursors c.args.lane course c.in-Some-2.event c.requires.stands.cursors here has) in
+    (next_is book.script book.journal book.cursors c.args.lane course c.in-Some-2.event c.requires.check_in_place.cursors here has) in
     let back = subst (IsHanded book c.hand_out.new.self c.args.lane c.line-line.result c.in-Some-2.event) c.in_default-3.is c.in_ok-work.ensures.handed in
     let none : c.hand_out.new.self ≡ book = back.1 in
     subst (λ (b : Recorded). AreHome c.in-Some-2.event b.words.out) (sym none) home
@@ -226,7 +226,7 @@ returns c =
       made = m.made;
       falls = λ more. m.falls;
       counts = m.counts;
-      in_place = c.stands-2.ensures;
+      in_place = c.check_in_place-2.ensures;
       home = all_home after m.stands;
       files = m.files;
       err = tt;

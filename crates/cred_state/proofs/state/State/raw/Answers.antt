@@ -19,7 +19,7 @@ read_parts-parts-requires-clause-used c =
 pub raw_with-requires-clause-other : goal.raw_with-requires-clause-other
 raw_with-requires-clause-other c =
     rw c.read_parts-parts.ensures.same
-    (ids_differ _ _ c.apply_parts.new.own _ _ c.differs_by-other.ensures
+    (ids_differ _ _ c.apply_parts.new.own _ _ c.differs_by-ids_changed.ensures
     c.read_parts-parts.ensures.parts.0)
 
 pub returns-in-Ok-apply_parts-clause-ok : goal.returns-in-Ok-apply_parts-clause-ok

@@ -3,7 +3,7 @@ use Rattle.std.specs.Option.{IsSomeAnd}
 use Rattle.cred_record.specs.Credential.{Credential}
 use Rattle.cred_model.specs.State.{Broadcast}
 use Rattle.cred_model.proofs.Places.{if_some}
-use Rattle.cred_cast.specs.Broadcasts.{MakesOf}
+use Rattle.cred_broadcasts.specs.Broadcasts.{MakesOf}
 use Rattle.cred_state.proofs.state.call_events.acts.keep_step.Goals as goal
 
 pub keep_at-requires : goal.keep_at-requires
