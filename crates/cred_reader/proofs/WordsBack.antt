@@ -4,6 +4,7 @@ use Rattle.std.specs.List.{list_all}
 use Rattle.std.specs.Str.{bytes_eq, all_ascii_digits}
 use Rattle.std.proofs.lemmas.Fmt.{decimal_nonempty}
 use Rattle.std.proofs.lemmas.Bool.Decides.{nat_tests}
+use Rattle.cred_ids.specs.Limits.{LAST_NAMESPACE}
 use Rattle.cred_ids.specs.declared.arg.Arg.{Arg}
 use Rattle.cred_ids.specs.declared.arg.Arg.TheVariants.{Keep, Set}
 use Rattle.cred_caps.specs.Secure.{LAST_BITS}
@@ -105,7 +106,7 @@ pub namespace_back : (ns : ℕ) → IsNamespace ns → spelling.namespace_of (co
 namespace_back ns h =
     let number : IsNumber ns = omega arith in
     let low : nat_le 0 ns ≡ true = grind (arith, nat_tests) in
-    let high : nat_le ns 15 ≡ true = grind (arith, nat_tests) in
+    let high : nat_le ns LAST_NAMESPACE ≡ true = grind (arith, nat_tests) in
     rw (number_back ns number, low, high) refl
 
 pub bits_back : (bits : ℕ) → bits ≤ LAST_BITS → kinds.bits_of (decimal bits) ≡ Some bits
