@@ -4,7 +4,7 @@
 #![tactic(auto)]
 
 mod changes;
-mod dump;
+mod flags;
 
 pub use changes::{differs, differs_by, is_gain};
-pub use dump::{Dump, flag_of_value};
+pub use flags::{DumpableFlags, flag_of_value};

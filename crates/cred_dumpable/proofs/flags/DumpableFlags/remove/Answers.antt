@@ -1,7 +1,7 @@
 use Rattle.std.proofs.Common.{◌==◌, not, rules, tests}
 use Rattle.std.proofs.lemmas.Fn.{filter_same}
 use Rattle.cred_model.specs.State.{ProcessFlag}
-use Rattle.cred_dumpable.proofs.dump.Dump.gone.Goals as goal
+use Rattle.cred_dumpable.proofs.flags.DumpableFlags.remove.Goals as goal
 
 pub returns : goal.returns
 returns c =

@@ -14,12 +14,12 @@ use std::marker::Model;
 
 /// A process, and whether it is dumpable.
 #[derive(Drop)]
-struct Flag {
+struct ProcessFlag {
     process: u32,
     dumpable: bool,
 }
 
-impl Model for Flag {
+impl Model for ProcessFlag {
     ghost use Rattle.cred_model.specs.State.{ProcessFlag};
 
     ghost Value = { ProcessFlag };
@@ -27,7 +27,7 @@ impl Model for Flag {
     ghost view = { λ f. record { process = f.process; dumpable = f.dumpable } };
 }
 
-impl Flag {
+impl ProcessFlag {
     /// This is the flag from now on, if it is the flag of this process.
     fn set(&mut self, process: u32, dumpable: bool)
         ensures { self.new ≡ flagged process dumpable self.old }
@@ -44,11 +44,11 @@ impl Flag {
 /// There is room for the flags of 64 processes, as many as tasks may live. A process is searched
 /// for among all of them.
 #[derive(Drop)]
-pub struct Dump {
-    flags: Vec<Flag>,
+pub struct DumpableFlags {
+    flags: Vec<ProcessFlag>,
 }
 
-impl Model for Dump {
+impl Model for DumpableFlags {
     ghost use Rattle.std.specs.Prelude.{List};
     ghost use Rattle.cred_model.specs.State.{ProcessFlag};
 
@@ -57,16 +57,16 @@ impl Model for Dump {
     ghost view = { λ d. d.flags.items };
 }
 
-impl Dump {
+impl DumpableFlags {
     /// No process.
     ///
     /// # Errors
     ///
     /// `NoMemory` if the allocation of the room fails.
-    pub fn new(alloc: Global) -> Result<Dump, NoMemory>
-        ensures { IfOk result (λ dump. dump ≡ []) }
+    pub fn new(alloc: Global) -> Result<DumpableFlags, NoMemory>
+        ensures { IfOk result (λ flags. flags ≡ []) }
     {
-        Ok(Dump {
+        Ok(DumpableFlags {
             flags: Vec::with_capacity(alloc, limits::TASKS)?,
         })
     }
@@ -81,7 +81,7 @@ impl Dump {
         ensures ok { OnOk result (self.new ≡ with_process_flag self.old process dumpable) }
         ensures err { OnErr result (self.new ≡ self.old) }
     {
-        self.flags.push(Flag { process, dumpable })?;
+        self.flags.push(ProcessFlag { process, dumpable })?;
         Ok(())
     }
 
@@ -112,43 +112,43 @@ impl Dump {
     }
 
     /// A process has ended. Where it isn't there, nothing changes.
-    pub fn gone(&mut self, process: u32)
+    pub fn remove(&mut self, process: u32)
         ensures { self.new ≡ without_flag self.old process }
     {
         self.flags.retain(|flag| flag.process != process);
     }
 
-    /// A task of the process has another credential. `other` says that an effective or a filesystem
+    /// A task of the process has another credential. `ids_changed` says that an effective or a filesystem
     /// id is another one in it: then the process is no longer dumpable.
-    pub fn renew(&mut self, process: u32, other: bool)
-        ensures { self.new ≡ renewed self.old process other }
+    pub fn renew(&mut self, process: u32, ids_changed: bool)
+        ensures { self.new ≡ renewed self.old process ids_changed }
     {
-        if other {
+        if ids_changed {
             self.set(process, false);
         }
     }
 
     /// A task of the process has committed this change. An execve makes the process dumpable again,
     /// unless an id is another one or the permitted set grows.
-    pub fn commit(&mut self, change: Change, gains: &Gains, process: u32, other: bool)
-        ensures { self.new ≡ flags_by change gains.now self.old process other }
+    pub fn commit(&mut self, change: Change, gains: &Gains, process: u32, ids_changed: bool)
+        ensures { self.new ≡ flags_by change gains.now self.old process ids_changed }
     {
         match change {
-            Change::Exec { .. } => self.set(process, !other && !is_gain(gains)),
-            _ => self.renew(process, other),
+            Change::Exec { .. } => self.set(process, !ids_changed && !is_gain(gains)),
+            _ => self.renew(process, ids_changed),
         }
     }
 
     /// A thread of the process has ended. Where it has no other, the process has ended too.
-    pub fn leave(&mut self, process: u32, other: bool)
-        ensures { self.new ≡ (if other then self.old else without_flag self.old process) }
+    pub fn leave(&mut self, process: u32, has_other: bool)
+        ensures { self.new ≡ (if has_other then self.old else without_flag self.old process) }
     {
-        if !other {
-            self.gone(process);
+        if !has_other {
+            self.remove(process);
         }
     }
 
-    fn flag(&self, process: u32) -> Option<&Flag>
+    fn flag(&self, process: u32) -> Option<&ProcessFlag>
         ensures { option_map (λ f. f.now) result ≡ flag_in self.now process }
     {
         self.flags.iter().find(|flag| flag.process == process)

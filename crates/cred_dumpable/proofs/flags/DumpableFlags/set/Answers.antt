@@ -2,7 +2,7 @@ use Rattle.std.proofs.Common.{◌≡◌, ◌∙◌, length, map, sym, ap}
 use Rattle.std.proofs.lemmas.List.Edits.{map_over_more}
 use Rattle.cred_model.specs.Dumpable.{flagged}
 use Rattle.cred_model.proofs.Overwritten.{written, changed_all}
-use Rattle.cred_dumpable.proofs.dump.Dump.set.Goals as goal
+use Rattle.cred_dumpable.proofs.flags.DumpableFlags.set.Goals as goal
 
 pub loop-flag-preserved : goal.loop-flag-preserved
 loop-flag-preserved c =

@@ -1,6 +1,6 @@
 use Rattle.std.proofs.Common.{◌≡◌, ◌++◌, map, take, drop}
 use Rattle.cred_model.specs.Dumpable.{flagged}
-use Rattle.cred_dumpable.proofs.dump.Dump.set.Given as goal
+use Rattle.cred_dumpable.proofs.flags.DumpableFlags.set.Given as goal
 
 abbrev pub invariant-loop-flag : goal.invariant-loop-flag
 invariant-loop-flag l =
