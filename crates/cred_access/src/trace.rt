@@ -90,11 +90,12 @@ fn are_all(id: Id, ids: &Ids4) -> bool
 /// where `reach` holds:
 ///
 /// - The real, effective and saved user ids of `to` are all the user id that is asked by, and its
-///   group ids likewise. With `PtraceMode::Fs` `from` asks by its filesystem ids, with `PtraceMode::Real` by
-///   its real ones.
+///   group ids likewise. With `PtraceMode::Fs` `from` asks by its filesystem ids, with
+///   `PtraceMode::Real` by its real ones.
 /// - The target's process is dumpable.
 /// - Both are in one user namespace, and what is permitted to `to` is in the capabilities that are
-///   asked by: the effective set of `from` with `PtraceMode::Fs`, its permitted set with `PtraceMode::Real`.
+///   asked by: the effective set of `from` with `PtraceMode::Fs`, its permitted set with
+///   `PtraceMode::Real`.
 ///
 /// The tests that other security modules than the commoncap one make are not made.
 pub fn may_trace(

@@ -118,8 +118,8 @@ impl DumpableFlags {
         self.flags.retain(|flag| flag.process != process);
     }
 
-    /// A task of the process has another credential. `ids_changed` says that an effective or a filesystem
-    /// id is another one in it: then the process is no longer dumpable.
+    /// A task of the process has another credential. `ids_changed` says that an effective or a
+    /// filesystem id is another one in it: then the process is no longer dumpable.
     pub fn renew(&mut self, process: u32, ids_changed: bool)
         ensures { self.new ≡ renewed self.old process ids_changed }
     {

@@ -38,7 +38,8 @@ impl Message {
 /// written and flushed.
 pub fn write_short_text<K: Sink>(sink: &mut K, status: Status, text: &[u8]) -> Status
     requires { IsWhole status }
-    ensures told { WritesShortText status text.now result (K.written sink.old) (K.written sink.new) }
+    ensures told { WritesShortText status text.now result (K.written sink.old)
+        (K.written sink.new) }
     ensures writing { IsWriting result (K.flushed sink.new)
         (K.faults sink.old) (K.faults sink.new) }
 {

@@ -24,7 +24,8 @@ use Rattle.cred_spelling.specs.Table as table
 use Rattle.cred_spelling.specs.Words.{word_of, one_of, two_of, three_of, five_of}
 use Rattle.cred_grammar.specs.IdCalls.{ids}
 use Rattle.cred_reader.specs.declared.answers.AnswerForm.{AnswerForm}
-use Rattle.cred_reader.specs.declared.answers.AnswerForm.TheVariants.{Nothing, Ids, Caps, Groups, Bits}
+use Rattle.cred_reader.specs.declared.answers.AnswerForm.TheVariants.{Nothing, Ids, Caps, Groups}
+use Rattle.cred_reader.specs.declared.answers.AnswerForm.TheVariants.{Bits}
 use Rattle.cred_reader.specs.declared.answers.AnswerForm.TheVariants.{Flag, File}
 use Rattle.cred_reader.specs.Kinds.{task_word, label_word, cred_of, slot_word, flag_of, bits_of}
 use Rattle.cred_ids.specs.Tests.{◌>>=◌}

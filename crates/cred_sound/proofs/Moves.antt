@@ -1,4 +1,4 @@
--- The moves that lead from one slot_use in order to another: fewer references and fewer kept slots,
+-- The moves that lead from one use of the slots in order to another: fewer references and fewer kept slots,
 -- one slot more that is kept, one credential more that is sealed.
 use Rattle.std.proofs.Common.{◌≡◌, ◌≢◌, ◌⊎◌, inl, inr, ℕ, ◌<◌, List, [], ◌∷◌, ◌++◌, length, slice_get, Some, sym, ap, ◌∙◌, arith}
 use Rattle.std.specs.List.{All, AllPairs, Contains}

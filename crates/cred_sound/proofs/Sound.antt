@@ -109,7 +109,7 @@ all_refer script s event made c =
       deferred = weaker made.1.deferred c.deferred;
     })
 
--- ---- the slot_use
+-- ---- the use of the slots
 
 -- first the sweep, if there is one
 swept_orderly : (s : State) (left : List ℕ) → All (Contains s.deferred) left → IsOrderly (slot_use s) → IsOrderly (slot_use (with_left s left))

@@ -16,7 +16,7 @@ pub record SlotUse : Type 0 where
   pub deferred : List ℕ
   pub kept : List ℕ
 
--- the slot_use of a state
+-- the use of the slots in a state
 abbrev pub slot_use : State → SlotUse
 slot_use s = record {
   slots = map (λ sealed. sealed.slot) s.creds;

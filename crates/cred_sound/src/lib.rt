@@ -3,7 +3,7 @@
 //!
 //! Below the laws and the book, so that both take it from here. The proof goes by parts: what an
 //! event may change of the tasks, the broadcasts, the open files, the holds, the prepared labels
-//! and the sealed credentials, and the few moves of a slot_use that these come to.
+//! and the sealed credentials, and the few moves of their use that these come to.
 #![tactic(auto)]
 
 ghost use Rattle.cred_sound.specs.TaskCount.{TasksAreFew};

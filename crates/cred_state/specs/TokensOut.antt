@@ -20,7 +20,8 @@ use Rattle.cred_model.specs.State.{info_of, open_of}
 use Rattle.cred_words.specs.Lists.{IsTaken}
 use Rattle.cred_hold.specs.Tokens.{Loan, Held, Written, loan}
 use Rattle.cred_work.specs.declared.pending.Pending.{Pending}
-use Rattle.cred_work.specs.declared.pending.Pending.TheVariants.{Asking, Opening, Signalling, Altering}
+use Rattle.cred_work.specs.declared.pending.Pending.TheVariants.{Asking, Opening, Signalling}
+use Rattle.cred_work.specs.declared.pending.Pending.TheVariants.{Altering}
 use Rattle.cred_tables.specs.Kept.{Standing, creds_in}
 use Rattle.cred_tables.specs.Out.{ArePut, cleared}
 

@@ -141,7 +141,7 @@ drops held made = record {
   kept = ap (λ (x : Table). x.kept) made;
 }
 
--- StateLists that refer to one number less are kept once it is given up.
+-- Lists that refer to one number less are kept once it is given up.
 pub kept_less : {parts left : StateLists} {store : List (Option Credential)} {t later : Table} {n : ℕ} → IsKept parts store t → Drops t later n
     → IsSameBag (in_use (state_of parts store t)) (n ∷ in_use (state_of left store later))
     → ((slot : ℕ) → is_kept_in later slot ≡ is_among (kept (state_of left store later)) slot) → IsKept left store later
@@ -150,7 +150,7 @@ kept_less {t = t} {later = later} {n = n} is less bag keeps = record {
   filled = filled_same less.sealed (no_more_dropped t later (n ∷ []) less.held less.deferred) is.filled;
 }
 
--- StateLists that refer to one number more are kept once a reference to it is added, where it was
+-- Lists that refer to one number more are kept once a reference to it is added, where it was
 -- referred to before.
 pub kept_more : {parts more : StateLists} {store : List (Option Credential)} {t r later : Table} {n m k : ℕ} → IsKept parts store t
     → r ≡ record t { spare = m } → IsSameBag later.held (n ∷ r.held) → later ≡ record r { held = later.held; spare = k }

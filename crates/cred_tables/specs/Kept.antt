@@ -112,7 +112,8 @@ pub record IsCounted (in_use kept : List ℕ) (table : Table) : Type 0 where
 
 -- The table counts what the parts refer to and keep, and each credential that is referred to is in
 -- its slot's place.
-pub record IsKept (parts : StateLists) (store : List (Option Credential)) (table : Table) : Type 0 where
+pub record IsKept (parts : StateLists) (store : List (Option Credential)) (table : Table)
+    : Type 0 where
   pub counted :
       IsCounted (in_use (state_of parts store table)) (kept (state_of parts store table)) table
   pub filled : AreFilled store table

@@ -101,8 +101,8 @@ pub fn fork_in(
     begin_process(tasks, flags, child, process, number, dumpable)
 }
 
-/// A task has another credential from now on. `ids_changed` says that an effective or a filesystem id is
-/// another one in it: then the task's process is no longer dumpable.
+/// A task has another credential from now on. `ids_changed` says that an effective or a filesystem
+/// id is another one in it: then the task's process is no longer dumpable.
 #[inline(always)]
 pub fn renew_in(tasks: &Procs, flags: &mut DumpableFlags, task: u32, ids_changed: bool)
     requires { IsSome (task_in tasks.now task) }

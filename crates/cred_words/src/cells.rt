@@ -211,7 +211,7 @@ impl MasterSeat {
         }
     }
 
-    /// ReturnsToken a hold, which the master keeps aside. `load_after_return` strikes out its loan.
+    /// Returns a hold, which the master keeps aside. `load_after_return` strikes out its loan.
     pub fn return_hold(&mut self, cells: &Cells, hold: HoldSeat)
         requires own { (self.old.id ≡ cells.now) × (hold.id ≡ cells.now) }
         requires empty { self.old.ledger.kept ≡ None }
@@ -224,7 +224,7 @@ impl MasterSeat {
         shared.join_seat::<ReturnsToken>(&mut self.seat, seat);
     }
 
-    /// ReturnsToken a writer, which the master keeps aside. `load_after_return` strikes out its loan.
+    /// Returns a writer, which the master keeps aside. `load_after_return` strikes out its loan.
     pub fn return_writer(&mut self, cells: &Cells, writer: WriterSeat)
         requires own { (self.old.id ≡ cells.now) × (writer.id ≡ cells.now) }
         requires empty { self.old.ledger.kept ≡ None }

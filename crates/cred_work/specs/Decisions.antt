@@ -13,7 +13,8 @@ use Rattle.cred_hold.specs.Tokens.{Written}
 use Rattle.cred_model.specs.Answers.{checked, reply}
 use Rattle.cred_model.specs.Change.{Made, by_change}
 use Rattle.cred_work.specs.declared.pending.Pending.{Pending}
-use Rattle.cred_work.specs.declared.pending.Pending.TheVariants.{Asking, Opening, Signalling, Altering}
+use Rattle.cred_work.specs.declared.pending.Pending.TheVariants.{Asking, Opening, Signalling}
+use Rattle.cred_work.specs.declared.pending.Pending.TheVariants.{Altering}
 
 -- the event for which it is lent
 abbrev pub work_event : Pending → Event

@@ -9,7 +9,7 @@ use cred_record::{FileInfo, IdList};
 use std::alloc::Global;
 use std::marker::Model;
 
-/// The fields of a work, which are large, or of an `Request`, for which nothing is lent.
+/// The fields of a work, which are large, or of a `Request`, for which nothing is lent.
 #[derive(Drop)]
 pub(crate) struct WorkFields {
     pub(crate) line: u32,

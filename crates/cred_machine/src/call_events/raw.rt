@@ -61,7 +61,8 @@ impl State {
         ids_changed: bool,
     ) -> Result<Answer, NoMemory>
         ensures ok { IfOk result (λ answer. in_slot self.old table_full
-            (λ s slot. called_alone s task process old cred ids_changed slot) ≡ (answer, self.new)) }
+            (λ s slot. called_alone s task process old cred ids_changed slot)
+            ≡ (answer, self.new)) }
         ensures err { OnErr result (self.new ≡ self.old) }
     {
         let Room { slot, swept } = self.room()?;

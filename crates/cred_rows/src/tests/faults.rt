@@ -1,5 +1,5 @@
 //! Each read and each write of a command fails in turn, where one call moves one byte, seven, or
-//! all that it is case to.
+//! all that it is asked to.
 use crate::tests::runs::{Given, end_of};
 use cred_ids::NoMemory;
 use cred_io::MemorySink;
@@ -305,7 +305,7 @@ fn others_of<R: AllocGlobal + Threads + Wait + Sync>(
     Ok([other_read(rt, case, input, piece)?, write?])
 }
 
-/// The same of what is case.
+/// The same of what is asked.
 fn others<R: AllocGlobal + Threads + Wait + Sync>(
     rt: &R,
     case: &CommandCase,

@@ -19,9 +19,9 @@ use cred_slots::Slots;
 use cred_tables::{NumberedSlot, renew_in, seal_next};
 
 /// A task gets its current credential with these parts, and with these groups where some are given,
-/// in the slot that is taken next, and the one before is given up. `ids_changed` says that an effective
-/// or a filesystem id is another one in it: then the task's process is no longer dumpable. Returns
-/// the number of the new one.
+/// in the slot that is taken next, and the one before is given up. `ids_changed` says that an
+/// effective or a filesystem id is another one in it: then the task's process is no longer
+/// dumpable. Returns the number of the new one.
 #[inline(always)]
 pub(super) fn replace_in(
     tasks: &mut Procs,

@@ -65,8 +65,8 @@ impl State {
     }
 
     /// The call of a task that may make it, which gives the task's current credential these parts,
-    /// and these groups where it sets them. `ids_changed` says that an effective or a filesystem id is
-    /// another one in these: then the task's process is no longer dumpable.
+    /// and these groups where it sets them. `ids_changed` says that an effective or a filesystem id
+    /// is another one in these: then the task's process is no longer dumpable.
     fn raw_with(
         &mut self,
         cells: &Cells,
