@@ -17,7 +17,7 @@ use Rattle.cred_state.proofs.Reading.{found-place, found-sealed, found-slot, is_
 use Rattle.cred_state.proofs.Reserved.{kept_spare}
 use Rattle.cred_state.proofs.Standing.{current-in_use}
 
-module _ {tasks : List Task} {slots : Table} {master : Mastered} {task slot : ℕ} {now : Numbered} (may : MayReplace tasks slots master task slot now) where
+module _ {tasks : List Task} {slots : Table} {master : Mastered} {task slot : ℕ} {now : NumberedSlot} (may : MayReplace tasks slots master task slot now) where
   abbrev s : State
   s = state_of (record may.beside { tasks = tasks }) master.slots slots
 
@@ -52,7 +52,7 @@ module _ {tasks : List Task} {slots : Table} {master : Mastered} {task slot : �
     apart = stands_apart seals now.number now.slot (found-slot may.kept now there used) held
 
 -- once room is reserved
-pub may_replace : {parts : StateLists} {master : Mastered} {t r : Table} {slot : ℕ} → IsKept parts master.slots t → (task : ℕ) (now : Numbered)
+pub may_replace : {parts : StateLists} {master : Mastered} {t r : Table} {slot : ℕ} → IsKept parts master.slots t → (task : ℕ) (now : NumberedSlot)
     → current_of (state_of parts master.slots t) task ≡ Some (seen_in (creds_in master.slots t.sealed) now)
     → AreOut (state_of parts master.slots t) master.loans → r ≡ record t { spare = max t.spare 1 } → Some slot ≡ free_in r
     → MayReplace parts.tasks r master task slot now

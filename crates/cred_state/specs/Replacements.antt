@@ -25,7 +25,7 @@ HasValidSets c (Words made) = ⊤
 -- there is room for one more reference, and the tables are kept, with what else refers to
 -- credentials.
 pub record MayReplace (tasks : List Task) (slots : Table) (master : Mastered) (task slot : ℕ)
-    (now : Numbered) : Type 0 where
+    (now : NumberedSlot) : Type 0 where
   pub beside : StateLists
   pub kept : IsKept (record beside { tasks = tasks }) master.slots slots
   pub has :

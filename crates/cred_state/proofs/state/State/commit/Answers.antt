@@ -68,6 +68,6 @@ pub commit_ready-requires-clause-allowed : goal.commit_ready-requires-clause-all
 commit_ready-requires-clause-allowed c =
     rw c.changes_ids-ids_changed.ensures.same c.in_default-overridden.ensures
 
-pub commit_ready-requires-clause-other : goal.commit_ready-requires-clause-other
-commit_ready-requires-clause-other c =
+pub commit_ready-requires-clause-ids_changed : goal.commit_ready-requires-clause-ids_changed
+commit_ready-requires-clause-ids_changed c =
     rw c.changes_ids-ids_changed.ensures.same c.changes_ids-ids_changed.ensures.ids_changed
