@@ -23,8 +23,8 @@ pub record IsReading
   pub no_more : ReadsUpTo (limit + 1) before after
 
 -- A whole text is flushed. The sink's count of faults rises for a WriteFault alone.
-pub record IsWriting (answer : Status) (flushed : Bool) (faults now : ℕ) : Type 0 where
-  pub flushed : IsWhole answer → flushed ≡ true
+pub record IsWriting (answer : Status) (is_flushed : Bool) (faults now : ℕ) : Type 0 where
+  pub flushed : IsWhole answer → is_flushed ≡ true
   pub cause : CountsFaults (answer ≡ status.WriteFault) faults now
 
 -- What a run of the bytes of a script leaves at its sink, where one of these journals of the script
