@@ -215,6 +215,28 @@ impl ForwardPen {
         }
     }
 
+    /// Writes the number of a slot after the text, in decimal. Most slots of a long script have
+    /// three digits.
+    #[inline(always)]
+    #[tactic(auto, using(crate::proofs::LastDigit::three_digits))]
+    pub(crate) fn slot(&mut self, number: u32)
+        requires { NUMBER ≤ self.old.room }
+        ensures text { self.new.text ≡ self.old.text ++ decimal number }
+        ensures room { self.old.room ≤ self.new.room + NUMBER }
+    {
+        if number < 100 {
+            self.number(u64::from(number))
+        } else if number < 1000 {
+            self.piece(&[
+                b'0' + (number / 100) as u8,
+                b'0' + (number / 10 % 10) as u8,
+                b'0' + (number % 10) as u8,
+            ])
+        } else {
+            self.digits(u64::from(number))
+        }
+    }
+
     /// Writes a space and the set after the text, in hexadecimal digits, and makes room for the
     /// entry's other parts.
     ///
