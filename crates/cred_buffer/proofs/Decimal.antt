@@ -11,10 +11,10 @@ pub of_two : (n : ℕ) → 10 ≤ n → n < 100 → decimal n ≡ (48 + n / 10) 
 of_two n many small = rw (decimal_step n many (omega arith), decimal_digit (n / 10) (omega arith)) refl
 
 -- a number of three digits
-pub three_digits : (n : ℕ) → 100 ≤ n → n < 1000 → decimal n ≡ (48 + n / 100) ∷ (48 + n / 10 % 10) ∷ (48 + n % 10) ∷ []
-three_digits n many small =
+pub of_three : (n : ℕ) → 100 ≤ n → n < 1000 → decimal n ≡ (48 + n / 100) ∷ (48 + n / 10 % 10) ∷ (48 + n % 10) ∷ []
+of_three n many small =
     let tens : n / 10 / 10 ≡ n / 100 = omega arith in
-    rw (← tens, decimal_step n (omega arith) (omega arith), two_digits (n / 10) (omega arith) (omega arith)) refl
+    rw (← tens, decimal_step n (omega arith) (omega arith), of_two (n / 10) (omega arith) (omega arith)) refl
 
 -- what stands before the last of some digits
 pub before_last : (digits front : List ℕ) (len x : ℕ) → len ≤ length digits → take len digits ≡ front ++ x ∷ [] → take (len - 1) digits ≡ front

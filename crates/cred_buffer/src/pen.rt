@@ -218,7 +218,7 @@ impl ForwardPen {
     /// Writes the number of a slot after the text, in decimal. Most slots of a long script have
     /// three digits.
     #[inline(always)]
-    #[tactic(auto, using(crate::proofs::LastDigit::three_digits))]
+    #[tactic(auto, using(crate::proofs::Decimal::of_three))]
     pub(crate) fn slot(&mut self, number: u32)
         requires { NUMBER ≤ self.old.room }
         ensures text { self.new.text ≡ self.old.text ++ decimal number }
