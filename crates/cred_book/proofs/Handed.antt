@@ -27,7 +27,7 @@ use Rattle.cred_work.specs.declared.pending.Pending.{Pending}
 use Rattle.cred_work.specs.declared.pending.Pending.TheVariants.{Altering}
 use Rattle.cred_work.specs.Work.{Work}
 use Rattle.cred_work.specs.DecidedWorks.{IsUndecided}
-use Rattle.cred_tables.specs.Kept.{Words}
+use Rattle.cred_tables.specs.Kept.{SharedWords}
 use Rattle.cred_tables.specs.Out.{AreBack, AreOut, tokens_in, needs_tokens}
 use Rattle.cred_tables.proofs.TokensOfLabels.{tokens_like}
 use Rattle.cred_state.specs.TokensOut.{IsChain, IsNs, loans_of, needs_decision}
@@ -233,7 +233,7 @@ makes_back before after lane comes made work is line event grown outs words =
     rw is (line, event, grown, record { outs = outs; words = words })
 
 -- the book after the entry of the work
-abbrev pub back_in : Recorded → ℕ → Event → Words → List (Option Credential) → Recorded
+abbrev pub back_in : Recorded → ℕ → Event → SharedWords → List (Option Credential) → Recorded
 back_in book line event words places = record (put_in book line event places) { words = words }
 
 -- and after the work is no longer out

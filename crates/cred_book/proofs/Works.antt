@@ -22,7 +22,7 @@ use Rattle.cred_course.specs.LaneCursors.{AreCursors, due_of}
 use Rattle.cred_course.proofs.Turns.{lanes_go_on}
 use Rattle.cred_hold.specs.Tokens.{Loan}
 use Rattle.cred_work.specs.declared.pending.Pending.{Pending}
-use Rattle.cred_tables.specs.Kept.{Words}
+use Rattle.cred_tables.specs.Kept.{SharedWords}
 use Rattle.cred_tables.specs.Out.{AreSameTokens, tokens_in, needs_tokens}
 use Rattle.cred_state.specs.TokensOut.{loans_of}
 use Rattle.cred_state.proofs.Stays.{StillWaits, waiting_stays}
@@ -90,7 +90,7 @@ module _ (book : Recorded) (lane : ℕ) (course : Course) (event : Event) (to : 
   grown = book.journal ++ made ∷ []
 
   -- the book after it, of which these works are out
-  abbrev pub after : List (Option ℕ) → Words → List (Option Credential) → Recorded
+  abbrev pub after : List (Option ℕ) → SharedWords → List (Option Credential) → Recorded
   after outs words places =
       record (moved_on (with_event book course.line event) lane course.line to) { outs = outs; words = words; places = places }
 
@@ -123,7 +123,7 @@ module _ {book : Recorded} {lane : ℕ} {course : Course} {event : Event} {to : 
       (sym (replay-push book.script book.journal (made book lane course event to)))
       (waiting_stays book.script (replay book.script book.journal) course.line event (sound_after book.script book.journal) work.event work.waits apart)
 
-  module _ (outs : List (Option ℕ)) (words : Words) (places : List (Option Credential)) (out : IsNowOut book.outs outs lane None) where
+  module _ (outs : List (Option ℕ)) (words : SharedWords) (places : List (Option Credential)) (out : IsNowOut book.outs outs lane None) where
     abbrev later : Recorded
     later = after book lane course event to outs words places
 

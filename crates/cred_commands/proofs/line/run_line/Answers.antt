@@ -7,7 +7,7 @@ use Rattle.cred_course.proofs.Courses.{line_at-place}
 use Rattle.std.proofs.lemmas.List.Elements.{All-nil}
 use Rattle.cred_names.specs.Labels.{event_labels}
 use Rattle.cred_hold.specs.Tokens as lent
-use Rattle.cred_tables.specs.Kept.{Words}
+use Rattle.cred_tables.specs.Kept.{SharedWords}
 use Rattle.cred_tables.specs.Out.{AreHome, AreOut}
 use Rattle.cred_tables.proofs.TokensOfLabels.{IsToken}
 use Rattle.cred_model.specs.Course.{after}
@@ -35,17 +35,17 @@ pub step-requires-clause-sound : goal.step-requires-clause-sound
 step-requires-clause-sound c = goes_sound _ _ _ _ _ _ _ _ c.requires.run c.events.invariant.0
 
 pub step-requires-clause-own : goal.step-requires-clause-own
-step-requires-clause-own c = ap (λ (w : Words). w.id) c.events.invariant.1 ∙ c.requires.own
+step-requires-clause-own c = ap (λ (w : SharedWords). w.id) c.events.invariant.1 ∙ c.requires.own
 
 pub step-requires-clause-out : goal.step-requires-clause-out
 step-requires-clause-out c =
-    let none = ap (λ (w : Words). w.out) c.events.invariant.1 ∙ c.requires.out in
+    let none = ap (λ (w : SharedWords). w.out) c.events.invariant.1 ∙ c.requires.out in
     let s = c.events.state.state in
     subst (λ (es : List lent.Loan). AreOut s es) (sym none) (All-nil (λ (e : lent.Loan). IsToken s e))
 
 pub step-requires-clause-home : goal.step-requires-clause-home
 step-requires-clause-home c =
-    let none = ap (λ (w : Words). w.out) c.events.invariant.1 ∙ c.requires.out in
+    let none = ap (λ (w : SharedWords). w.out) c.events.invariant.1 ∙ c.requires.out in
     let labels = event_labels c.in-Some-2.event in
     subst (λ (es : List lent.Loan). AreHome c.in-Some-2.event es) (sym none) (All-nil (λ (e : lent.Loan). Contains labels e.label → ⊥))
 

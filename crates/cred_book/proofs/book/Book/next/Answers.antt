@@ -12,7 +12,7 @@ use Rattle.cred_course.specs.Cursor.{IsOfLine, MovesOnTo}
 use Rattle.cred_course.specs.LaneCursors.{due_of}
 use Rattle.cred_course.proofs.Turns.{lane_has_place}
 use Rattle.cred_work.specs.Work.{Work}
-use Rattle.cred_tables.specs.Kept.{Words}
+use Rattle.cred_tables.specs.Kept.{SharedWords}
 use Rattle.cred_tables.specs.Out.{AreHome, needs_tokens}
 use Rattle.cred_book.specs.Book.{Recorded, answer_of, inodes_in}
 use Rattle.cred_book.specs.Cursor.{BookStands, moved_on}
@@ -221,7 +221,7 @@ returns c =
     record {
       script = m.script;
       earlier = ap (λ (b : Recorded). b.earlier) (sym same);
-      cells = ap (λ (w : Words). w.id) m.words;
+      cells = ap (λ (w : SharedWords). w.id) m.words;
       stands = m.stands;
       made = m.made;
       falls = λ more. m.falls;
