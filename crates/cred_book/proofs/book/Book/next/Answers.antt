@@ -64,7 +64,7 @@ hand_out-requires-clause-home c =
     let has : event_of book.script course ≡ Some c.in-Some-2.event
     = made_event _ book course _ _ c.self.view_is c.in_ok-event.ensures.event c.in-Some-2.is in
     next_home book c.args.lane (record { line = course.line; event = c.in-Some-2.event }) c.requires.stands c.requires.home
-    (next_is book.script book.journal book.cursors c.args.lane course c.in-Some-2.event c.requires.check_in_place.cursors here has)
+    (next_is book.script book.journal book.cursors c.args.lane course c.in-Some-2.event c.requires.stands.cursors here has)
 
 pub hand_out-requires-clause-place : goal.hand_out-requires-clause-place
 hand_out-requires-clause-place c =
@@ -145,7 +145,7 @@ enter-requires-clause-home c =
     = made_event _ book course _ _ c.self.view_is c.in_ok-event.ensures.event c.in-Some-2.is in
     let home : AreHome c.in-Some-2.event book.words.out
     = next_home book c.args.lane (record { line = course.line; event = c.in-Some-2.event }) c.requires.stands c.requires.home
-    (next_is book.script book.journal book.cursors c.args.lane course c.in-Some-2.event c.requires.check_in_place.cursors here has) in
+    (next_is book.script book.journal book.cursors c.args.lane course c.in-Some-2.event c.requires.stands.cursors here has) in
     let back = subst (IsHanded book c.hand_out.new.self c.args.lane c.line-line.result c.in-Some-2.event) c.in_default-3.is c.in_ok-work.ensures.handed in
     let none : c.hand_out.new.self ≡ book = back.1 in
     subst (λ (b : Recorded). AreHome c.in-Some-2.event b.words.out) (sym none) home
