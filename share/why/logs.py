@@ -58,14 +58,7 @@ class LogTeller:
         ]
         # What the sets are is asked for all at once, before they are compared.
         self.teller.explainer.ask(decisions)
-        return self._explained([it for it in decisions if self._may_have_changed(it)])
-
-    def _may_have_changed(self, decision: Decision) -> bool:
-        """Whether a set is another one behind it; also where that couldn't be asked."""
-        try:
-            return self.teller.changed(decision)
-        except (Fault, NotFound):
-            return True
+        return self._explained([it for it in decisions if self.teller.may_have_changed(it)])
 
     def _explained(self, decisions: list[Decision]) -> list[tuple[int, list[str]]]:
         """What is told of each."""
