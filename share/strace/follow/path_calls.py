@@ -246,7 +246,9 @@ class PathCalls:
         found = where.locate(path)
         if found is None or not self.paths.is_known(found):
             return None
-        real = where.locate(path, None, self.paths.link) if self.paths.files.listed is None else None
+        if self.paths.files.listed is not None:
+            return replace(found, real=None)
+        real = where.locate(path, None, self.paths.link)
         return replace(found, real=real.place if real else None)
 
     def opened(self, task: Task, number: int | None, found: Located) -> None:
