@@ -31,6 +31,7 @@ class Sum:
     starts: int = 0
     again: int = 0
     large: int = 0
+    long: int = 0
     states: int = 0
     tried: int = 0
     steps: int = 0
@@ -103,6 +104,9 @@ def compare(case: Case, size: Size) -> Sum:
     try:
         for start in starts(case):
             of_start(case, start, size, total)
+    except Limit:
+        # The script is nearly as long as one may be: no question has room behind it.
+        total.long += 1
     except (Bad, NotFound) as fault:
         total.faults.append(f"{case.name}: {fault}")
     return total
