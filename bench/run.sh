@@ -118,17 +118,17 @@ for name in calls changes holds checks; do
   "$ours" run < "$dir/$name" > "$dir/report"
   "$dir/plain" run < "$dir/$name" | cmp - "$dir/report"
 done
-measure run calls 33.6 "$dir/plain" run
-measure run changes 57.3 "$dir/plain" run
-measure run holds 16.6 "$dir/plain" run
-measure run checks 39.1 "$dir/plain" run
+measure run calls 32.9 "$dir/plain" run
+measure run changes 56.4 "$dir/plain" run
+measure run holds 16.5 "$dir/plain" run
+measure run checks 39.0 "$dir/plain" run
 # The plain program has no threads.
-measure run broadcast 87.2
+measure run broadcast 84.3
 for name in calls changes broadcast threads; do audited "$name"; done
 measure audit audit-calls 61.7
 measure audit audit-changes 152.7
 measure audit audit-broadcast 221.0
-measure lanes lanes 61.9 "$ours" run
-measure run threads 858 "$dir/writes" run
-measure audit audit-threads 2233 "$ours" run
+measure lanes lanes 61.5 "$ours" run
+measure run threads 824 "$dir/writes" run
+measure audit audit-threads 2218 "$ours" run
 exit "$status"

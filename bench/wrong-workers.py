@@ -93,7 +93,7 @@ def passes_over(lent: str) -> Edits:
     is_one = f"""\
     /// Whether this is lent.
     pub fn is_passed_over(&self) -> bool {{
-        matches!(&self.parts.lent, Some(Lent::{lent} {{ .. }}))
+        matches!(&self.parts.lent, Some(Pending::{lent} {{ .. }}))
     }}
 
 """

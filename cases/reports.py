@@ -5,13 +5,16 @@ which number a new credential has and in which slot it stands, is worked out her
 docs/FORMATS.md ("The report") and docs/RULES.md ("Holding credentials").
 """
 import heapq
+import sys
 from collections import Counter
 
 import suite
 
+sys.path.insert(0, str(suite.TOP.parent / "share"))
+import limits  # noqa: E402
+
 # The most lines of a script, and the slots of the table.
-LINES = 20_000
-SLOTS = 256
+LINES, SLOTS = limits.LINES, limits.SLOTS
 
 
 class Slots:

@@ -202,9 +202,10 @@ def wrong_places(place: Path, program: str) -> str | None:
     """The tools work through a symbolic link and from a copy, also of share/ alone."""
     copied = place / "copy"
     alone = place / "alone" / "share"
-    for part in ("share/capabilities", "share/scripts", "share/tool", "docs"):
-        shutil.copytree(TOP / part, copied / part)
-    for package in ("capabilities", "scripts", "tool"):
+    packages = ("capabilities", "limits", "scripts", "tool")
+    shutil.copytree(TOP / "docs", copied / "docs")
+    for package in packages:
+        shutil.copytree(TOP / "share" / package, copied / "share" / package)
         shutil.copytree(TOP / "share" / package, alone / package)
     for tool in sorted(path.name for path in (TOP / "share").glob("credtrace-*")):
         shutil.copy(TOP / "share" / tool, copied / "share")

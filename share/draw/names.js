@@ -31,6 +31,7 @@ function movedOf(hex) {
   return setOf(hex).replace(/^all-/, "all but ");
 }
 
+// The greatest number of securebits is LAST_BITS of share/limits, which a page can't read.
 function flagsOf(number) {
   if (!/^[0-9]+$/.test(number) || Number(number) > 255) return number;
   return FLAGS.filter((_, bit) => (Number(number) >> bit) & 1).join(",") || "none";

@@ -56,17 +56,17 @@ def told_of(script: bytes, report: str) -> Told:
     values, journal = teller.values, teller.journal
     for credential in journal.homes:
         values.want(credential, CAPS)
-    decisions = journal.decisions
-    explained = teller.explainer.explained(decisions)
+    teller.explainer.ask(journal.decisions)
+    # Where the sets can't be asked for, that is said in place of the reason.
+    shown = [
+        it
+        for it in journal.decisions
+        if it.refused or not teller.is_means(it) and teller.may_have_changed(it)
+    ]
+    explained = teller.explainer.explained(shown)
     found = Told()
-    for it, reasons in zip(decisions, explained, strict=True):
-        try:
-            shown = it.refused or not teller.is_means(it) and teller.changed(it)
-        except (Fault, NotFound):
-            # Where the sets can't be asked for, that is said in place of the reason.
-            shown = True
-        if shown:
-            found.reasons[it.index + 1] = sentences(reasons)
+    for it, reasons in zip(shown, explained, strict=True):
+        found.reasons[it.index + 1] = sentences(reasons)
     found.sets = {f"c{number}": [*words] for (number, kind), words in values.known.items()
                   if kind == CAPS}  # fmt: skip
     return found

@@ -2,7 +2,7 @@
 complete -c credtrace-watch -s p -l pid -x -d 'A process that runs already'
 complete -c credtrace-watch -l all -d 'Each refused call by itself'
 complete -c credtrace-watch -l keep -r -d 'Keep the log, the script and the report in this folder'
-complete -c credtrace-watch -l draw -r -d 'Draw the report as a page into this file'
+complete -c credtrace-watch -l draw -r -d 'Draw the script as a page into this file'
 complete -c credtrace-watch -l json -d 'Write what is told as JSON'
 complete -c credtrace-watch -s o -l output -r -d 'Write what is told into this file'
 complete -c credtrace-watch -l print-filter -d 'Print the words for strace, and do no more'

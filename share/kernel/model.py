@@ -12,6 +12,8 @@ from typing import TypeVar
 
 from . import cred as change
 from . import files
+from limits import HOLDS, TASKS
+
 from .cred import Cred, Refused
 from .lines import id_of
 from .rows import CAPABILITY, DENIED_GROUPS, EXPECTED, MANUAL
@@ -20,7 +22,6 @@ from .script import CHANGES, ID_CALLS, QUERIES, Line, Script, capability
 from .setup import Place, id_map
 
 KILL = 5
-TASKS, HOLDS = 64, 512
 Words = tuple[str, ...]
 Rows = frozenset[str]
 Made = TypeVar("Made")

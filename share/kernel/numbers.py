@@ -7,7 +7,7 @@ from __future__ import annotations
 
 import heapq
 
-SLOTS = 256
+from limits import SLOTS
 
 
 class Full(Exception):

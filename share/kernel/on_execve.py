@@ -98,7 +98,7 @@ def compared(
     cred = cred_of(before, chain[0], mapped or (lambda _: True))
     manual = outcome(cred, file, chain, MANUAL)
     linux = outcome(cred, file, chain, EXPECTED)
-    deciding = tuple(
-        it for it in OF_EXECVE if outcome(cred, file, chain, EXPECTED - {it}) != linux
-    )  # fmt: skip
-    return Compared(manual, linux, deciding if manual != linux else ())
+    if manual == linux:
+        return Compared(manual, linux, ())
+    deciding = (it for it in OF_EXECVE if outcome(cred, file, chain, EXPECTED - {it}) != linux)
+    return Compared(manual, linux, tuple(deciding))

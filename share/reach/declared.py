@@ -5,6 +5,7 @@ from __future__ import annotations
 from collections.abc import Iterable, Mapping, Sequence
 from dataclasses import dataclass
 
+import limits
 from why.file_rules import Version
 from why.program import decoded, report_of
 from why.script import File
@@ -13,7 +14,7 @@ from .faults import Bad
 from .lines import words_of
 
 # A script declares so many files at most.
-MOST_FILES = 256
+MOST_FILES = limits.FILES
 LONGEST_NAME = 32
 EXECUTES = 0o111
 

@@ -5,12 +5,13 @@ from __future__ import annotations
 import re
 from collections.abc import Iterator, Sequence
 
+import limits
 from why.values import NOTHING
 
 DECLARATIONS = ("file", "ns", "init")
 TASKS = re.compile(r"\b[tp](\d{1,5})\b")
 # The greatest number of a task, and of the line that `act` names.
-LAST_TASK, LAST_LINE = 99999, 20000
+LAST_TASK, LAST_LINE = limits.LAST_NUMBER, limits.LINES
 NONE = "#"
 
 

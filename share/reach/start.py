@@ -7,6 +7,7 @@ from collections.abc import Iterable, Sequence
 from dataclasses import dataclass, field
 from fnmatch import fnmatchcase
 
+import limits
 from why.journal import Journal
 from why.program import report_of
 from why.script import File, Script
@@ -18,7 +19,7 @@ from .faults import Bad, NotFound
 from .state import QUESTIONS, State, state_at
 
 # Two tasks more are needed beside those that live.
-MOST_TASKS, NEEDED = 64, 2
+MOST_TASKS, NEEDED = limits.TASKS, 2
 TASK = re.compile(r"t[1-9][0-9]{0,4}")
 
 

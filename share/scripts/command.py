@@ -8,6 +8,7 @@ import subprocess
 import sys
 import textwrap
 
+from limits import BYTES, LINES
 from tool.inputs import Fault, shown
 from tool.program import cant_run, program
 
@@ -22,9 +23,6 @@ STATUS_BAD, STATUS_LARGE = 2, 6
 
 # What is added of a script that the program itself doesn't take.
 WITH_NAMES = ", with names for sets: credtrace-names --to-script writes it for credtrace run"
-
-# How many lines and bytes a script has at most.
-LINES, BYTES = 20_000, 1 << 20
 
 
 def verdict(script: bytes) -> tuple[int, str] | None:

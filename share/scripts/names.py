@@ -10,9 +10,10 @@ from collections.abc import Callable, Iterator
 from typing import BinaryIO
 
 from capabilities import ALL_CAPABILITIES, CAPABILITIES, SECUREBIT_VALUES
+from limits import LAST_BITS
 
 # The securebits that a script holds: docs/FORMATS.md.
-FLAGS = {name: bit for name, bit in SECUREBIT_VALUES.items() if bit < 256}
+FLAGS = {name: bit for name, bit in SECUREBIT_VALUES.items() if bit <= LAST_BITS}
 
 CAP_WORDS = frozenset({"capable", "bset", "ambis", "capdrop", "ambraise", "amblower"})
 
@@ -72,7 +73,7 @@ def set_in_hex(word: str) -> str | None:
 
 def flags_in_names(word: str) -> str:
     """Securebits in names; the number is decimal."""
-    if not word.isdigit() or int(word) > 255:
+    if not word.isdigit() or int(word) > LAST_BITS:
         return word
     return ",".join(name for name, bit in FLAGS.items() if int(word) & bit) or "none"
 

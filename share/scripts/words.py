@@ -6,6 +6,7 @@ import re
 from collections.abc import Callable
 
 from capabilities import CAPABILITIES
+from limits import LAST_LANE, LAST_NAMESPACE
 
 from .names import BadName, encoded, flags_in_number, set_in_hex
 
@@ -65,7 +66,9 @@ def is_record(word: str, task: str) -> bool:
 
 
 # The numbers that a word may have, where it isn't all of its kind.
-WITHIN = {("ns", 1): (1, 15), ("ns", 3): (0, 15), ("lane", 1): (1, 16)}
+WITHIN = {
+    ("ns", 1): (1, LAST_NAMESPACE), ("ns", 3): (0, LAST_NAMESPACE), ("lane", 1): (1, LAST_LANE),
+}  # fmt: skip
 
 
 def expected_of(form: str, words: list[str]) -> list[str]:

@@ -209,7 +209,8 @@ def items_of(
 
 def read(reader: Reader, logs: list[str]) -> list[Item]:
     """All that a log tells, or the logs of one strace."""
-    # A log's calls are all kept: to look for garbage among them takes a third of the time.
+    # A log's calls are all kept: to look for garbage among them takes a third of the time, here and
+    # later.
     gc.disable()
     try:
         if len(logs) > 1:
@@ -217,6 +218,7 @@ def read(reader: Reader, logs: list[str]) -> list[Item]:
         else:
             with source_of(logs[0]) as source:
                 items = reader.read(text_lines(source), progress)
+        gc.freeze()
     finally:
         gc.enable()
     if reader.count >= 50_000 and sys.stderr.isatty():

@@ -3,7 +3,6 @@
 from __future__ import annotations
 
 import argparse
-import io
 import json
 import os
 import sys
@@ -15,7 +14,7 @@ from strace.options import Options, converted
 from strace.script.command import list_of
 from tool.inputs import Fault
 from why.command import capability
-from why.reason import A_FAULT
+from why.reason import A_FAULT, Bad, NotFound
 from why.reason import Fault as NoReason
 
 from . import beginning, tracing
@@ -44,7 +43,7 @@ def parsed(words: list[str]) -> argparse.Namespace:
     parser.add_argument(
         "--keep", metavar="DIR", help="keep the log, the script and the report in this folder"
     )
-    parser.add_argument("--draw", metavar="FILE", help="draw the report as a page into this file")
+    parser.add_argument("--draw", metavar="FILE", help="draw the script as a page into this file")
     parser.add_argument("--json", action="store_true", help="write what is told as JSON")
     parser.add_argument(
         "-o", "--output", metavar="FILE", help="write what is told into this file, not to "
@@ -123,10 +122,14 @@ def keeps(folder: Path, report: LogReport) -> None:
 
 
 def draws(path: Path, report: LogReport) -> None:
-    """A page of the report."""
-    from draw.command import drawn
+    """A page of the script as it was run: what only the kernel refused is a comment there."""
+    # To draw takes another package, which is read where it is asked for alone.
+    from draw.command import drawn_script
 
-    write(path, drawn(io.BytesIO(report_of(report.run.text()).encode("latin-1")), 1, None))
+    try:
+        write(path, drawn_script(report.run.text().encode("latin-1"), 1, None))
+    except (Bad, NotFound) as fault:
+        raise Fault(f"{path} isn't drawn: {fault}") from None
 
 
 def watched(given: argparse.Namespace, folder: Path) -> int:

@@ -291,12 +291,16 @@ class Explainer:
         found = linux.execve(self.file_of(decision), *asked, self.roots(before))
         return linux.reasons(found, self.mask)
 
-    def explained(self, decisions: list[Decision]) -> list[list[Reason] | Fault | NotFound]:
-        """The sentences of many decisions, all of which are asked for at once; or why one has none:
-        that is a fault, or there was no room for a question."""
+    def ask(self, decisions: list[Decision]) -> None:
+        """Asks at once for all that the sentences of many decisions rest on."""
         for decision in decisions:
             self.wants(decision)
         self.values.ask()
+
+    def explained(self, decisions: list[Decision]) -> list[list[Reason] | Fault | NotFound]:
+        """The sentences of many decisions, all of which are asked for at once; or why one has none:
+        that is a fault, or there was no room for a question."""
+        self.ask(decisions)
         found: list[list[Reason] | Fault | NotFound] = []
         for decision in decisions:
             try:

@@ -4,6 +4,8 @@ from __future__ import annotations
 
 from collections.abc import Sequence
 
+from limits import GROUPS
+
 from . import sources
 from .names import (
     AMBIENT, BOUNDING, EFFECTIVE, INHERITABLE, KEEP_CAPS, NO_SETUID_FIXUP, NUMBERS, PERMITTED,
@@ -13,7 +15,6 @@ from .reason import Fault, Reason
 
 KEPT = -1
 SETUID, SETGID = NUMBERS["CAP_SETUID"], NUMBERS["CAP_SETGID"]
-GROUPS = 1024
 ON_FILES = sum(
     1 << NUMBERS[f"CAP_{name}"]
     for name in "CHOWN DAC_OVERRIDE DAC_READ_SEARCH FOWNER FSETID LINUX_IMMUTABLE MAC_OVERRIDE "

@@ -6,6 +6,8 @@ can be told with what stood in its way. No rule on credentials is known here.
 
 from __future__ import annotations
 
+from limits import HOLDS
+
 from . import obstacles
 from .records import Cast, Decision, Home, Label, Task
 from .file_events import FileEvents
@@ -16,7 +18,6 @@ from .reason import CAPS, IDS, Fault
 from .script import File, Script
 
 RULED = frozenset(("eperm", "einval", "eacces"))
-HOLDS = 512
 
 
 class Journal(PtraceEvents, FileEvents):

@@ -57,12 +57,8 @@ class LogTeller:
             if it.line in lines and not it.refused and not self.teller.is_means(it)
         ]
         # What the sets are is asked for all at once, before they are compared.
-        explained = self.teller.explainer.explained(decisions)
-        return [
-            (it.line, self.teller.entry(it) + self.teller.of(reasons))
-            for it, reasons in zip(decisions, explained, strict=True)
-            if not isinstance(reasons, list) or self.teller.changed(it)
-        ]
+        self.teller.explainer.ask(decisions)
+        return self._explained([it for it in decisions if self.teller.may_have_changed(it)])
 
     def _explained(self, decisions: list[Decision]) -> list[tuple[int, list[str]]]:
         """What is told of each."""

@@ -7,15 +7,16 @@ from functools import lru_cache
 
 from capabilities import CAPABILITIES as CAPS
 from capabilities import SECUREBITS
+from limits import LAST_BITS
 
 NUMBERS = {f"CAP_{name}": number for number, name in enumerate(CAPS)}
 ALL = (1 << len(CAPS)) - 1
 LAST = len(CAPS) - 1
 
-FLAGS = SECUREBITS[:8]
+FLAGS = SECUREBITS[: LAST_BITS.bit_length()]
 NOROOT, NO_SETUID_FIXUP, KEEP_CAPS, KEEP_CAPS_LOCKED, NO_AMBIENT_RAISE = 1, 4, 16, 32, 64
 LOCKS = 0xAA
-ALL_FLAGS = 0xFF
+ALL_FLAGS = LAST_BITS
 
 # The sets and the ids, in the order in which `caps` and `ids` tell them.
 SETS = ("permitted", "inheritable", "effective", "bounding", "ambient")

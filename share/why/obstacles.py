@@ -6,6 +6,8 @@ from __future__ import annotations
 from collections.abc import Callable
 from typing import TYPE_CHECKING
 
+from limits import DEPTH, HOLDS, OPEN_FILES, PREPARED, SLOTS, TASKS
+
 from . import sources
 from .file_rules import EVENTS
 from .names import CALLS, counted, listed
@@ -16,10 +18,9 @@ if TYPE_CHECKING:
     from .journal import Journal
 
 LIMITS = {
-    "tasks": (64, "live tasks"), "files": (256, "open files"), "holds": (512, "holds"),
-    "prepared": (64, "prepared labels"),
+    "tasks": (TASKS, "live tasks"), "files": (OPEN_FILES, "open files"), "holds": (HOLDS, "holds"),
+    "prepared": (PREPARED, "prepared labels"),
 }  # fmt: skip
-SLOTS, DEPTH = 256, 8
 
 
 def held(condition: bool, what: str) -> None:

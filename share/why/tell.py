@@ -71,6 +71,13 @@ class Teller:
             return False
         return self.values.caps(decision.before) != self.values.caps(decision.after)
 
+    def may_have_changed(self, decision: Decision) -> bool:
+        """Whether a set is another one behind it; also where that couldn't be asked."""
+        try:
+            return self.changed(decision)
+        except (Fault, NotFound):
+            return True
+
     def told(self, decisions: list[Decision]) -> list[str]:
         """What is told of some entries, under the texts of their lines."""
         found, line = [], None

@@ -14,12 +14,14 @@ from bisect import bisect_left
 from collections import Counter
 from functools import lru_cache
 
+import limits
+
 from .journal import Journal
 from .program import report_of
 from .reason import BITS, CAPS, GROUPS, IDS, Fault, NotFound
 from .script import QUERIES
 
-LINES, BYTES = 20000, 1 << 20
+LINES, BYTES = limits.LINES, limits.BYTES
 KINDS = (IDS, CAPS, GROUPS, BITS)
 # What leaves everything as it is: a line that begins so, or the word behind its task.
 NOTHING = QUERIES | {"fcap", "access", "signal", "ptrace", "dumpable", "dumped", "stat"}

@@ -21,7 +21,7 @@ fn may_raise(cred: &Cred, cap: Cap) -> bool
 ///
 /// `Invalid` above 40; then `Perm` where the capability is not permitted or not inheritable, and
 /// while NO_CAP_AMBIENT_RAISE is set; then `Memory` if the groups could not be copied.
-#[tactic(auto, unfolding(cred_rules::specs::Adjust::after_amb_raise), using(cred_caps::proofs::SetLaws::with_within))]
+#[tactic(auto, unfolding(cred_rules::specs::Adjust::after_amb_raise))]
 pub fn raise_ambient(cred: &Cred, n: u32) -> Result<Cred, Refusal>
     ensures { AnswersBy result (after_amb_raise cred.now n) }
 {
@@ -31,6 +31,7 @@ pub fn raise_ambient(cred: &Cred, n: u32) -> Result<Cred, Refusal>
     }
     let mut new = copy(cred)?;
     new.amb = cred.amb.with(cap);
+    #[tactic(auto, using(cred_caps::proofs::SetLaws::with_within))]
     Ok(new)
 }
 
@@ -39,13 +40,14 @@ pub fn raise_ambient(cred: &Cred, n: u32) -> Result<Cred, Refusal>
 /// # Errors
 ///
 /// `Invalid` above 40; then `Memory` if the groups could not be copied.
-#[tactic(auto, unfolding(cred_rules::specs::Adjust::after_amb_lower), using(cred_caps::proofs::SetLaws::within))]
+#[tactic(auto, unfolding(cred_rules::specs::Adjust::after_amb_lower))]
 pub fn lower_ambient(cred: &Cred, n: u32) -> Result<Cred, Refusal>
     ensures { AnswersBy result (after_amb_lower cred.now n) }
 {
     let cap = Cap::new(n).ok_or(Refusal::Invalid)?;
     let mut new = copy(cred)?;
     new.amb = cred.amb.without(cap);
+    #[tactic(auto, using(cred_caps::proofs::SetLaws::within))]
     Ok(new)
 }
 

@@ -35,8 +35,8 @@ fn keeps_locks(old: SecureBits, new: SecureBits) -> bool
 ///
 /// # Errors
 ///
-/// `Perm` without CAP_SETPCAP, above 255, with a lock unset that was set, and with a flag changed
-/// whose lock was set; then `Memory` if the groups could not be copied.
+/// `Perm` without CAP_SETPCAP, above `LAST_BITS`, with a lock unset that was set, and with a flag
+/// changed whose lock was set; then `Memory` if the groups could not be copied.
 #[tactic(auto, unfolding(cred_rules::specs::Adjust::after_bits))]
 pub fn set_bits(cred: &Cred, n: u32) -> Result<Cred, Refusal>
     ensures { AnswersBy result (after_bits cred.now n) }

@@ -24,8 +24,8 @@ use cred_record::{AdjCall, Cred, Refusal};
 ///   capability;
 /// - for a raise in the ambient set of a capability that is not permitted or not inheritable, or
 ///   while NO_CAP_AMBIENT_RAISE is set;
-/// - for securebits without CAP_SETPCAP, above 255, with a lock unset that was set, or with a flag
-///   changed whose lock was set;
+/// - for securebits without CAP_SETPCAP, above `LAST_BITS`, with a lock unset that was set, or with
+///   a flag changed whose lock was set;
 /// - for KEEP_CAPS while its lock is set.
 ///
 /// `Invalid` comes for a number above 40 where a capability is named, for KEEP_CAPS with another

@@ -22,7 +22,7 @@ fn may_set_caps(cred: &Cred, perm: &CapSet, inh: &CapSet, eff: &CapSet) -> bool
 ///
 /// `Perm` where the caller may not have these sets (capset(2)); then `Memory` if the groups could
 /// not be copied.
-#[tactic(auto, unfolding(cred_rules::specs::Adjust::after_capset), using(cred_caps::proofs::SetLaws::within))]
+#[tactic(auto, unfolding(cred_rules::specs::Adjust::after_capset))]
 pub fn set_caps(cred: &Cred, perm: CapSet, inh: CapSet, eff: CapSet) -> Result<Cred, Refusal>
     ensures { AnswersBy result (after_capset cred.now perm inh eff) }
 {
@@ -34,5 +34,6 @@ pub fn set_caps(cred: &Cred, perm: CapSet, inh: CapSet, eff: CapSet) -> Result<C
     new.inh = inh;
     new.eff = eff;
     new.amb = cred.amb.meet(&perm).meet(&inh);
+    #[tactic(auto, using(cred_caps::proofs::SetLaws::within))]
     Ok(new)
 }

@@ -12,7 +12,8 @@ use Rattle.cred_record.specs.declared.adj_call.AdjCall.TheVariants.{Capset, Boun
 use Rattle.cred_record.specs.declared.adj_call.AdjCall.TheVariants.{AmbLower, AmbClear, Bits}
 use Rattle.cred_record.specs.declared.adj_call.AdjCall.TheVariants.{KeepCaps, NoNewPrivs}
 use Rattle.cred_rules.specs.SetId.{is_given}
-use Rattle.cred_rules.specs.Adjust.{LAST_BITS, is_no_cap}
+use Rattle.cred_caps.specs.Secure.{LAST_BITS}
+use Rattle.cred_rules.specs.Adjust.{is_no_cap}
 use Rattle.cred_event.specs.declared.answer.Named.TheVariants.{Broadcast}
 use Rattle.cred_event.specs.declared.answer.Answer.{Answer}
 use Rattle.cred_event.specs.declared.answer.Answer.TheVariants.{Done, Began, Eperm, Einval, NoTask}

@@ -3,7 +3,7 @@ ghost use Rattle.std.specs.Prelude.{◌≡◌};
 ghost use Rattle.cred_rules.specs.SetId.{is_given};
 ghost use Rattle.cred_answers.specs.CallRows as spec;
 
-use cred_caps::Cap;
+use cred_caps::{Cap, LAST_BITS};
 use cred_event::{Answer, Named};
 use cred_ids::{Arg, limits};
 use cred_record::{AdjCall, IdCall};
@@ -115,7 +115,7 @@ fn may_be_done(call: AdjCall) -> bool
 {
     match call {
         AdjCall::Capset { perm, eff, .. } => eff.within(&perm),
-        AdjCall::Bits(bits) => bits <= 255,
+        AdjCall::Bits(bits) => bits <= LAST_BITS,
         AdjCall::NoNewPrivs(value) => value == 1,
         AdjCall::BoundDrop(_)
         | AdjCall::AmbRaise(_)

@@ -125,7 +125,7 @@ line_number_back n some few =
     let numeral = numeral_of (decimal n) (digits_decimal own n small) (first_decimal n (omega arith) small) in
     let short : nat_lt n (2 ^ 32) ≡ true = grind (arith, nat_tests) in
     let low : nat_le 1 n ≡ true = grind (arith, nat_tests) in
-    let high : nat_le n 20000 ≡ true = grind (arith, nat_tests) in
+    let high : nat_le n LINE_LIMIT ≡ true = grind (arith, nat_tests) in
     rw (numeral, digits_value-decimal own n small, short, low, high) refl
 
 -- where the number and a blank begin the bytes, its digits end at the first blank

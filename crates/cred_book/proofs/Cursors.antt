@@ -25,7 +25,7 @@ use Rattle.cred_course.proofs.Lanes.{SoFar-push, due_here, lane_goes_on, lane_ma
 use Rattle.cred_course.proofs.Least.{least_due, least_is_due, none_due}
 use Rattle.cred_course.proofs.Turns.{due_is, lanes_go_on, next_none, next_some, stands_at}
 use Rattle.cred_hold.specs.Tokens as token
-use Rattle.cred_tables.specs.Kept.{Words}
+use Rattle.cred_tables.specs.Kept.{SharedWords}
 use Rattle.cred_tables.specs.Out.{needs_tokens}
 use Rattle.cred_course.proofs.StagesLeft.{stage_is}
 use Rattle.cred_book.specs.Book.{Recorded, out_of}
@@ -39,7 +39,7 @@ use Rattle.cred_book.specs.declared.step.Step.TheVariants.{More}
 use Rattle.cred_book.proofs.Counts.{entered_other, entered_own, lines_few}
 use Rattle.cred_book.proofs.Decided.{decided_other, decided_own}
 use Rattle.cred_book.proofs.Left.{all_grow, all_have_ended, lane_in, one_left, others_stay, own_grows, set_up_stays}
-use Rattle.cred_book.proofs.Lent.{lane_tokens_none}
+use Rattle.cred_book.proofs.LentTokens.{lane_tokens_none}
 use Rattle.cred_course.proofs.Measure.{step_falls}
 use Rattle.cred_book.proofs.Works.{GoesOn, IsNowOut, after, grown, lent_stays, out_in, where_some, works_stay}
 
@@ -97,7 +97,7 @@ same_or_next was is false same = inl (omega (arith, same))
 
 -- the numbers after it
 entry_counts : {book : Recorded} {lane : ℕ} {course : Course} {event : Event} {to : Option Course} (goes : GoesOn book lane course event to)
-    (outs : List (Option ℕ)) (words : Words) (places : List (Option Credential)) → IsNowOut book.outs outs lane None
+    (outs : List (Option ℕ)) (words : SharedWords) (places : List (Option Credential)) → IsNowOut book.outs outs lane None
     → IsLaneCursor book.script (grown book lane course event to) lane to
     → AreCursors book.script (grown book lane course event to) (set book.cursors lane to)
     → HasEntered book (after book lane course event to outs words places) lane (count_of (needs_tokens (replay book.script book.journal) event))
@@ -125,7 +125,7 @@ lane_has_out book lane course stands due =
     omega (arith, within, stands.outs)
 
 pub moves : {book : Recorded} {lane : ℕ} {course : Course} {event : Event} {to : Option Course} (goes : GoesOn book lane course event to)
-    (outs : List (Option ℕ)) (words : Words) (places : List (Option Credential)) → IsNowOut book.outs outs lane None
+    (outs : List (Option ℕ)) (words : SharedWords) (places : List (Option Credential)) → IsNowOut book.outs outs lane None
     → ((test : token.Loan → Bool) → count_by test book.words.out ≡ count_by test (lane_tokens book lane) + count_by test words.out)
     → Moves book (after book lane course event to outs words places) lane (count_of (needs_tokens (replay book.script book.journal) event))
 moves {book = book} {lane = lane} {course = course} {event = event} {to = to} goes outs words places out back =

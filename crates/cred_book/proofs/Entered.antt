@@ -21,7 +21,7 @@ use Rattle.cred_words.specs.Lists.{Has}
 use Rattle.cred_hold.specs.Tokens as token
 use Rattle.cred_tables.specs.Out.{AreHome, AreOut}
 use Rattle.cred_tables.proofs.Bags.{count-same}
-use Rattle.cred_tables.proofs.Outs.{has_out, out_has}
+use Rattle.cred_tables.proofs.TokensOfLabels.{has_out, out_has}
 use Rattle.cred_state.proofs.Lines.{may_need_tokens}
 use Rattle.cred_state.proofs.Stays.{EndsLabel, LetsGo, SealsIt, GivesUp, out_stays, token_stays}
 use Rattle.cred_book.proofs.ListAnswers.{list_stays}

@@ -12,13 +12,13 @@ use Rattle.cred_model.specs.Course.{Course, event_at}
 use Rattle.cred_model.specs.Journal.{entry_of, replay}
 use Rattle.cred_model.proofs.FileChanges.{event_of_change}
 use Rattle.cred_model.proofs.Journals.{replay-push}
-use Rattle.cred_sound.proofs.Infos.{keeps_infos}
+use Rattle.cred_sound.proofs.Inodes.{keeps_inodes}
 use Rattle.cred_course.specs.Cursor.{IsLaneCursor}
 use Rattle.cred_course.proofs.Courses.{line_is}
 use Rattle.cred_course.proofs.Lanes.{same_lane}
 use Rattle.cred_course.proofs.Turns.{stands_at}
-use Rattle.cred_book.specs.Book.{Recorded, infos_in}
-use Rattle.cred_book.proofs.Nexts.{event_of}
+use Rattle.cred_book.specs.Book.{Recorded, inodes_in}
+use Rattle.cred_book.proofs.NextEvents.{event_of}
 use Rattle.cred_book.proofs.Works.{GoesOn, grown}
 
 -- what is so of all lines is so of the one at a place
@@ -53,11 +53,11 @@ changes_none script journal lane course event fixed at has other = by (event_cha
 -- so no entry of it does
 pub files_stay : {book : Recorded} {lane : ℕ} {course : Course} {event : Event} {to : Option Course}
     → GoesOn book lane course event to → lane ≢ 0
-    → (replay book.script (grown book lane course event to)).infos ≡ infos_in book
+    → (replay book.script (grown book lane course event to)).inodes ≡ inodes_in book
 files_stay {book = book} {lane = lane} {course = course} {event = event} goes other =
     let script = book.script in
     let entry : Entry = entry_of script book.journal (record { line = course.line; event = event }) in
     let at = stands_at script book.journal book.cursors lane course goes.stands.cursors goes.due in
-    ap (λ (s : State). s.infos) (replay-push script book.journal entry)
-    ∙ keeps_infos script (replay script book.journal) course.line event
+    ap (λ (s : State). s.inodes) (replay-push script book.journal entry)
+    ∙ keeps_inodes script (replay script book.journal) course.line event
     (changes_none script book.journal lane course event goes.stands.fixed at goes.has other)

@@ -18,21 +18,21 @@ use Rattle.cred_words.specs.Lists.{Has}
 use Rattle.cred_hold.specs.Tokens.{Loan, Held, Written, loan}
 use Rattle.atomic_table.specs.Seated.{TableId}
 use Rattle.cred_work.specs.Decisions.{AreOf, work_event}
-use Rattle.cred_work.specs.declared.lent.Lent.{Lent}
-use Rattle.cred_work.specs.declared.lent.Lent.TheVariants.{Asking, Opening, Signalling, Altering}
+use Rattle.cred_work.specs.declared.pending.Pending.{Pending}
+use Rattle.cred_work.specs.declared.pending.Pending.TheVariants.{Asking, Opening, Signalling, Altering}
 use Rattle.cred_work.specs.Work.{Work}
 use Rattle.cred_tables.specs.Out.{AreOut, hold_token, kept_tokens, tokens_in, needs_tokens}
-use Rattle.cred_tables.proofs.Back.{has_taken, taken_has}
-use Rattle.cred_tables.proofs.Outs.{base_out, hold_out, hold_token_is, kept_tokens_are, writer_out}
+use Rattle.cred_tables.proofs.Returned.{has_taken, taken_has}
+use Rattle.cred_tables.proofs.TokensOfLabels.{base_out, hold_out, hold_token_is, kept_tokens_are, writer_out}
 use Rattle.cred_state.specs.TokensOut.{AreTaken, loans_of}
 use Rattle.cred_state.proofs.Lines.{IsLines, may_need_tokens, names_own, same_event, waiting_may}
 use Rattle.cred_state.proofs.Stays.{base_sealed, held_sealed}
 use Rattle.cred_book.specs.Book.{Recorded}
 use Rattle.cred_book.specs.Cursor.{BookStands}
 use Rattle.cred_book.specs.Works.{IsOfLane, IsOutOf}
-use Rattle.cred_book.proofs.Apart.{IsOfPlace, due_from, names_at, names_differ, never_setup, next_made}
+use Rattle.cred_book.proofs.LabelsDiffer.{IsOfPlace, due_from, names_at, names_differ, never_setup, next_made}
 use Rattle.cred_book.proofs.Joined.{has_passes}
-use Rattle.cred_book.proofs.Lent.{HasLent, lent_by, lent_under, under, work_next}
+use Rattle.cred_book.proofs.LentTokens.{HasLent, lent_by, lent_under, under, work_next}
 
 -- ---- what was taken
 
@@ -85,7 +85,7 @@ module _ (s : State) (sound : IsSound s) (out : List Loan) (are : AreOut s out) 
           (λ k. loan (its k) (sym slot k) None ∷ loan (own k) (sym same.0 k) (Some (sym same.1 k)) ∷ [])
           ∙ sym (kept_tokens_are s label p c.0 at c.1)
 
-  pub tokens_back : (cells : TableId) (lent : Lent) → needs_tokens s (work_event lent) ≡ true → AreOf cells lent
+  pub tokens_back : (cells : TableId) (lent : Pending) → needs_tokens s (work_event lent) ≡ true → AreOf cells lent
       → ((e : Loan) → Has (loans_of lent) e → Has out e) → loans_of lent ≡ tokens_in s (work_event lent)
   tokens_back cells (Asking hold query told) waits of has = hold_back hold.label hold refl waits (has (hold_loan hold) (inl refl))
   tokens_back cells (Opening hold file want fd may) waits of has = hold_back hold.label hold refl waits (has (hold_loan hold) (inl refl))
@@ -99,12 +99,12 @@ module _ (s : State) (sound : IsSound s) (out : List Loan) (are : AreOut s out) 
 -- ---- its event is the lane's next one
 
 -- one of its tokens
-pub record HasToken (lent : Lent) : Type 0 where
+pub record HasToken (lent : Pending) : Type 0 where
   pub it : Loan
   pub is : Has (loans_of lent) it
   pub named : Contains (event_labels (work_event lent)) it.label
 
-one_token : (cells : TableId) (lent : Lent) → AreOf cells lent → HasToken lent
+one_token : (cells : TableId) (lent : Pending) → AreOf cells lent → HasToken lent
 one_token cells (Asking hold query told) of =
     record { it = loan hold.label hold.slot (Some hold.cred); is = inl refl; named = Contains-push [] hold.label }
 one_token cells (Opening hold file want fd may) of =
@@ -114,7 +114,7 @@ one_token cells (Signalling from hold to target may) of =
 one_token cells (Altering base writer change made) (own, its, same) =
     record { it = loan base.label base.slot (Some base.cred); is = inr (inl refl); named = Contains-push [] base.label }
 
-pub lent_waits : (lent : Lent) → may_need_tokens (work_event lent) ≡ true
+pub lent_waits : (lent : Pending) → may_need_tokens (work_event lent) ≡ true
 lent_waits (Asking hold query told) = refl
 lent_waits (Opening hold file want fd may) = refl
 lent_waits (Signalling from hold to target may) = refl

@@ -23,31 +23,31 @@ use Rattle.cred_sound.proofs.Sound.{sound_after}
 use Rattle.cred_words.specs.Lists.{Has}
 use Rattle.cred_hold.specs.Tokens.{Loan, loan}
 use Rattle.cred_work.specs.Decisions.{AreOf, work_event as its_event}
-use Rattle.cred_work.specs.declared.lent.Lent.{Lent}
-use Rattle.cred_work.specs.declared.lent.Lent.TheVariants.{Altering}
+use Rattle.cred_work.specs.declared.pending.Pending.{Pending}
+use Rattle.cred_work.specs.declared.pending.Pending.TheVariants.{Altering}
 use Rattle.cred_work.specs.Work.{Work}
 use Rattle.cred_work.specs.DecidedWorks.{IsUndecided}
-use Rattle.cred_tables.specs.Kept.{Words}
+use Rattle.cred_tables.specs.Kept.{SharedWords}
 use Rattle.cred_tables.specs.Out.{AreBack, AreOut, tokens_in, needs_tokens}
-use Rattle.cred_tables.proofs.Outs.{tokens_like}
+use Rattle.cred_tables.proofs.TokensOfLabels.{tokens_like}
 use Rattle.cred_state.specs.TokensOut.{IsChain, IsNs, loans_of, needs_decision}
-use Rattle.cred_book.specs.Book.{Recorded, answer_of, infos_in, out_of, with_event}
+use Rattle.cred_book.specs.Book.{Recorded, answer_of, inodes_in, out_of, with_event}
 use Rattle.cred_book.specs.Counts.{Counts, HasEntered, count_of}
 use Rattle.cred_book.specs.Cursor.{Finishes, Makes, BookStands, steps_left, moved_on}
 use Rattle.cred_book.specs.Works.{IsChainFor, IsEntered, IsOfLane, IsOutOf, MayMake, lane_tokens, with_work}
 use Rattle.cred_book.specs.declared.step.Step.TheVariants as step
-use Rattle.cred_book.proofs.Apart.{IsNext}
+use Rattle.cred_book.proofs.LabelsDiffer.{IsNext}
 use Rattle.cred_book.proofs.Cursors.{Moves, due_left, lane_has_out, makes_more, moves}
 use Rattle.cred_book.proofs.Files.{files_stay}
 use Rattle.cred_book.proofs.Finished.{all_taken, event_is, tokens_back}
 use Rattle.cred_book.proofs.Joined.{count-append}
-use Rattle.cred_book.proofs.Lent.{lane_tokens_are, lane_tokens_none, work_next, work_of}
-use Rattle.cred_book.proofs.Nexts.{MakesNext, event_of, next_course, next_is}
+use Rattle.cred_book.proofs.LentTokens.{lane_tokens_are, lane_tokens_none, work_next, work_of}
+use Rattle.cred_book.proofs.NextEvents.{MakesNext, event_of, next_course, next_is}
 use Rattle.cred_book.proofs.Works.{GoesOn, IsNowOut, after, lends, lends_now, out_same, out_set}
 
 -- ---- out
 
-lent_chain : (script : Script) (s t : State) (like : IsLike s t) (ns : ℕ) (lent : Lent) → IsNs s (its_event lent) ns
+lent_chain : (script : Script) (s t : State) (like : IsLike s t) (ns : ℕ) (lent : Pending) → IsNs s (its_event lent) ns
     → loans_of lent ≡ tokens_in t (its_event lent) → IsChain script lent (chain_of script ns)
 lent_chain script s t like ns (Altering base writer (Exec file) made) is tokens =
     by (prepared_of s base.label) is (tokens ∙ sym (tokens_like s t like (Alter base.label (Exec file))))
@@ -74,7 +74,7 @@ lent_chain script s t like ns lent is tokens = tt
 
 -- the namespace that a state decides an event by has the root ids of what is lent for it
 pub ns_chain : (script : Script) (s t : State) (like : IsLike s t) (event : Event) (ns : ℕ) → IsNs s event ns
-    → (lent : Lent) → its_event lent ≡ event → loans_of lent ≡ tokens_in t event → IsChain script lent (chain_of script ns)
+    → (lent : Pending) → its_event lent ≡ event → loans_of lent ≡ tokens_in t event → IsChain script lent (chain_of script ns)
 ns_chain script s t like event ns is lent named tokens =
     lent_chain script s t like ns lent (subst (λ e. IsNs s e ns) (sym named) is) (tokens ∙ ap (tokens_in t) (sym named))
 
@@ -113,7 +113,7 @@ pub record IsDueWork (book : Recorded) (lane : ℕ) (course : Course) (work : Wo
   pub waits : needs_tokens (replay book.script book.journal) (its_event work.lent) ≡ true
   pub own : AreOf book.words.id work.lent
   pub tokens : loans_of work.lent ≡ tokens_in (replay book.script book.journal) (its_event work.lent)
-  pub file : work.file ≡ info_of (infos_in book) (event_files (its_event work.lent))
+  pub file : work.file ≡ info_of (inodes_in book) (event_files (its_event work.lent))
   pub chain : IsChainFor book (its_event work.lent) work.chain
 
 pub record HandsOut (before after : Recorded) (lane : ℕ) (work : Work) : Type 0 where
@@ -169,7 +169,7 @@ pub record EntersMore (before after : Recorded) (lane : ℕ) : Type 0 where
   pub made : Makes before after lane (next before.script before.journal lane) step.More
   pub falls : steps_left after < steps_left before
   pub counts : HasEntered before after lane 0
-  pub files : lane ≢ 0 → infos_in after ≡ infos_in before
+  pub files : lane ≢ 0 → inodes_in after ≡ inodes_in before
 
 -- the book after an entry, where this stands in its slots
 abbrev pub put_in : Recorded → ℕ → Event → List (Option Credential) → Recorded
@@ -223,7 +223,7 @@ pub record ComesBack (before after : Recorded) (lane : ℕ) (work : Work) : Type
   pub made : Finishes before after lane work (next before.script before.journal lane)
   pub falls : steps_left after < steps_left before
   pub counts : HasEntered before after lane 1
-  pub files : lane ≢ 0 → infos_in after ≡ infos_in before
+  pub files : lane ≢ 0 → inodes_in after ≡ inodes_in before
 
 makes_back : (before after : Recorded) (lane : ℕ) (comes : Option logged.Entry) (made : logged.Entry) (work : Work) → comes ≡ Some made
     → made.line ≡ work.line → made.event ≡ (its_event work.lent) → after.journal ≡ before.journal ++ made ∷ []
@@ -233,7 +233,7 @@ makes_back before after lane comes made work is line event grown outs words =
     rw is (line, event, grown, record { outs = outs; words = words })
 
 -- the book after the entry of the work
-abbrev pub back_in : Recorded → ℕ → Event → Words → List (Option Credential) → Recorded
+abbrev pub back_in : Recorded → ℕ → Event → SharedWords → List (Option Credential) → Recorded
 back_in book line event words places = record (put_in book line event places) { words = words }
 
 -- and after the work is no longer out

@@ -3,9 +3,9 @@ pub mod Before
 pub mod Decided
 pub mod Left
 pub mod Joined
-pub mod Apart
-pub mod Nexts
-pub mod Lent
+pub mod LabelsDiffer
+pub mod NextEvents
+pub mod LentTokens
 pub mod Works
 pub mod Cursors
 pub mod Files

@@ -25,7 +25,7 @@ use Rattle.cred_event.specs.declared.answer.AbortCause.TheVariants as cause
 use Rattle.cred_model.specs.FileChanges.{changed_by}
 use Rattle.cred_model.specs.Script.{Script, chain_of, root_of, reaches}
 use Rattle.cred_model.specs.Dumpable.{differs, flag_of_value, flags_begun, flags_committed, is_dumpable, renewed}
-use Rattle.cred_model.specs.Ptrace.{may_trace}
+use Rattle.cred_rules.specs.Ptrace.{may_trace}
 use Rattle.cred_model.specs.State.{State, Task, Broadcast, Prepared, Changed, Numbered, credential_of, opener_of, numbered, task_of, broadcast_of, broadcast_in}
 use Rattle.cred_model.specs.State.{begun_by}
 use Rattle.cred_model.specs.State.{open_of, hold_of, prepared_of, held_by, info_of}
@@ -131,7 +131,7 @@ files_plainly : (s : State) (event : Event) (hold place : ℕ)
 files_plainly s event hold place =
     outcome_has (Leaves s) s _ (refuses s)
     (if_some (Leaves s) (held_by s hold) _ _
-    (λ held at. if_some (Leaves s) (slice_get s.infos place) _ _
+    (λ held at. if_some (Leaves s) (slice_get s.inodes place) _ _
     (λ old there. if_file_rule (Leaves s) (changed_by event held.cred old) _
     (λ new ruled list. absurd list))))
 
@@ -190,7 +190,7 @@ by_event script s line (Alter label change) =
     (if_some (Leaves s) (prepared_of s label) _ _
     (λ p is. if_some (Leaves s) (numbered s.creds p.base) _ _
     (λ base at.
-    let file = info_of s.infos (change_files change) in
+    let file = info_of s.inodes (change_files change) in
     let chain = chain_of script base.cred.ns in
     if_ok (Leaves s) (by_change file chain base.cred change) _
     (λ made so list.
@@ -250,7 +250,7 @@ by_event script s line (OpenFile hold place asked fd) =
     outcome_has (Leaves s) s _ (refuses s)
     (if_some (Leaves s) (held_by s hold) _ _
     (λ held is. if_none (Leaves s) (open_of s fd) _ _
-    (λ new. if_passed (Leaves s) (checked held.cred (info_of s.infos (place ∷ [])) asked) _
+    (λ new. if_passed (Leaves s) (checked held.cred (info_of s.inodes (place ∷ [])) asked) _
     (if_fewer (Leaves s) (length s.files) OPEN_FILES _ _ (λ list. absurd list)))))
 by_event script s line (CloseFile fd) =
     outcome_has (Leaves s) s _ (refuses s)
@@ -306,7 +306,7 @@ by_event script s line (SetAttr hold place attr) =
 by_event script s line (Stat hold place) =
     outcome_has (Leaves s) s _ (refuses s)
     (if_some (Leaves s) (held_by s hold) _ _
-    (λ held at. if_some (Leaves s) (slice_get s.infos place) _ _ (λ file there list. refl)))
+    (λ held at. if_some (Leaves s) (slice_get s.inodes place) _ _ (λ file there list. refl)))
 by_event script s line (Raw task call) =
     outcome_has (Leaves s) s _ (refuses s)
     (if_some (Leaves s) (task_of s task) _ _

@@ -21,7 +21,7 @@ use Rattle.cred_tables.specs.Kept.{AreInPlace}
 use Rattle.cred_book.specs.Book.{Recorded, out_of}
 use Rattle.cred_book.specs.Cursor.{BookStands, NoLineIsLeft}
 use Rattle.cred_book.proofs.Joined.{one_if, some_passes}
-use Rattle.cred_book.proofs.Lent.{lent_by, work_of}
+use Rattle.cred_book.proofs.LentTokens.{lent_by, work_of}
 
 -- ---- in the words of their slots
 

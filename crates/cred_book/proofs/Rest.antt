@@ -23,7 +23,7 @@ use Rattle.cred_book.specs.Book.{Recorded}
 use Rattle.cred_book.specs.Cursor.{BookStands}
 use Rattle.cred_book.specs.Parts.{BeginsLegal}
 use Rattle.cred_book.proofs.Cursors.{entry_falls}
-use Rattle.cred_book.proofs.Nexts.{event_of}
+use Rattle.cred_book.proofs.NextEvents.{event_of}
 
 -- ---- where a lane goes on
 

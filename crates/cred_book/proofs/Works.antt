@@ -21,8 +21,8 @@ use Rattle.cred_course.specs.Cursor.{MovesOnTo}
 use Rattle.cred_course.specs.LaneCursors.{AreCursors, due_of}
 use Rattle.cred_course.proofs.Turns.{lanes_go_on}
 use Rattle.cred_hold.specs.Tokens.{Loan}
-use Rattle.cred_work.specs.declared.lent.Lent.{Lent}
-use Rattle.cred_tables.specs.Kept.{Words}
+use Rattle.cred_work.specs.declared.pending.Pending.{Pending}
+use Rattle.cred_tables.specs.Kept.{SharedWords}
 use Rattle.cred_tables.specs.Out.{AreSameTokens, tokens_in, needs_tokens}
 use Rattle.cred_state.specs.TokensOut.{loans_of}
 use Rattle.cred_state.proofs.Stays.{StillWaits, waiting_stays}
@@ -30,11 +30,11 @@ use Rattle.cred_book.specs.Book.{Recorded, answer_of, out_of, with_event}
 use Rattle.cred_book.specs.Counts.{IsOutNow}
 use Rattle.cred_book.specs.Cursor.{BookStands, moved_on}
 use Rattle.cred_book.specs.Works.{IsOutOf, lane_tokens, tokens_out, with_out}
-use Rattle.cred_book.proofs.Apart.{IsNext, labels_apart}
+use Rattle.cred_book.proofs.LabelsDiffer.{IsNext, labels_apart}
 use Rattle.cred_book.proofs.Joined.{count-append, count-joined, sum-but_one}
 use Rattle.cred_book.proofs.Left.{set_up_stays}
-use Rattle.cred_book.proofs.Lent.{lane_tokens_are, lane_tokens_none, work_next, work_of}
-use Rattle.cred_book.proofs.Nexts.{due_stays, event_of, next_is}
+use Rattle.cred_book.proofs.LentTokens.{lane_tokens_are, lane_tokens_none, work_next, work_of}
+use Rattle.cred_book.proofs.NextEvents.{due_stays, event_of, next_is}
 
 -- ---- lines whose works are out
 
@@ -90,7 +90,7 @@ module _ (book : Recorded) (lane : ℕ) (course : Course) (event : Event) (to : 
   grown = book.journal ++ made ∷ []
 
   -- the book after it, of which these works are out
-  abbrev pub after : List (Option ℕ) → Words → List (Option Credential) → Recorded
+  abbrev pub after : List (Option ℕ) → SharedWords → List (Option Credential) → Recorded
   after outs words places =
       record (moved_on (with_event book course.line event) lane course.line to) { outs = outs; words = words; places = places }
 
@@ -123,7 +123,7 @@ module _ {book : Recorded} {lane : ℕ} {course : Course} {event : Event} {to : 
       (sym (replay-push book.script book.journal (made book lane course event to)))
       (waiting_stays book.script (replay book.script book.journal) course.line event (sound_after book.script book.journal) work.event work.waits apart)
 
-  module _ (outs : List (Option ℕ)) (words : Words) (places : List (Option Credential)) (out : IsNowOut book.outs outs lane None) where
+  module _ (outs : List (Option ℕ)) (words : SharedWords) (places : List (Option Credential)) (out : IsNowOut book.outs outs lane None) where
     abbrev later : Recorded
     later = after book lane course event to outs words places
 
@@ -174,7 +174,7 @@ module _ {book : Recorded} {lane : ℕ} {course : Course} {event : Event} {to : 
 
 -- ---- a work that goes out
 
-module _ (book : Recorded) (lane line : ℕ) (event : Event) (lent : Lent) (stands : BookStands book) (home : out_of book lane ≡ None)
+module _ (book : Recorded) (lane line : ℕ) (event : Event) (lent : Pending) (stands : BookStands book) (home : out_of book lane ≡ None)
     (next : IsNext book.script book.journal lane (record { line = line; event = event }))
     (waits : needs_tokens (replay book.script book.journal) event ≡ true)
     (tokens : loans_of lent ≡ tokens_in (replay book.script book.journal) event)

@@ -11,7 +11,7 @@ use Rattle.cred_model.specs.Script.{Script}
 use Rattle.cred_model.specs.Course.{Course}
 use Rattle.cred_model.specs.Step.{step}
 use Rattle.cred_model.specs.Journal.{replay, entry_of}
-use Rattle.cred_tables.specs.Kept.{Words}
+use Rattle.cred_tables.specs.Kept.{SharedWords}
 
 -- A script, the journal of its run so far, and those of its entries that are of earlier parts and
 -- not kept any more; for each lane a cursor, the course of a line or none, the number of its lines
@@ -24,7 +24,7 @@ pub record Recorded : Type 0 where
   pub cursors : List (Option Course)
   pub ended : List ℕ
   pub outs : List (Option ℕ)
-  pub words : Words
+  pub words : SharedWords
   pub places : List (Option Credential)
 
 -- the line of the lane whose work is out
@@ -32,8 +32,8 @@ abbrev pub out_of : Recorded → ℕ → Option ℕ
 out_of book lane = option_and_then (λ line. line) (slice_get book.outs lane)
 
 -- the script's files as they stand after the journal
-abbrev pub infos_in : Recorded → List File
-infos_in book = (replay book.script book.journal).infos
+abbrev pub inodes_in : Recorded → List File
+inodes_in book = (replay book.script book.journal).inodes
 
 -- the book in which an event of a line is entered, with its answer
 abbrev pub with_event : Recorded → ℕ → Event → Recorded

@@ -1,10 +1,10 @@
 -- A book's cursors, and the steps that move them on.
-use Rattle.std.specs.Prelude.{◌≡◌, ◌≤◌, ◌==◌, ℕ, ◌+◌, [], ◌∷◌, ◌++◌, length, set, Some, None}
+use Rattle.std.specs.Prelude.{◌≡◌, ◌≤◌, ◌==◌, ℕ, ◌+◌, ◌*◌, [], ◌∷◌, ◌++◌, length, set, Some, None}
 use Rattle.std.specs.Prelude.{Bool, true, false, not, slice_index_or, IfSome}
 use Rattle.std.specs.declared.option.Option.{Option}
 use Rattle.std.specs.List.{sum_by}
 use Rattle.std.specs.Option.{option_map_or}
-use Rattle.cred_ids.specs.Limits.{LINE_LIMIT}
+use Rattle.cred_ids.specs.Limits.{LINE_LIMIT, LAST_LANE}
 use Rattle.cred_event.specs.declared.entry.Entry.{Entry}
 use Rattle.cred_model.specs.Course.{Course}
 use Rattle.cred_model.specs.FileChanges.{FixesFiles}
@@ -31,10 +31,10 @@ abbrev pub steps_left : Recorded → ℕ
 steps_left book =
     sum_by (left_at book.script) book.cursors + waiting (replay book.script book.journal)
 
--- how many entries a journal has, at most: 152 for each of 20,000 lines, for 17 lanes, as all of the
+-- how many entries a journal has, at most: 152 for each line, for all lanes and the setup, as all
 -- lines may be of any of them
 abbrev pub MOST_STEPS : ℕ
-MOST_STEPS = 51680000
+MOST_STEPS = 152 * LINE_LIMIT * (LAST_LANE + 1)
 
 -- Each entry is the next one of its line's lane after the entries before it, and each lane's cursor
 -- and its count of ended lines are the journal's. The script has no more lines than one may have,

@@ -20,13 +20,13 @@ use Rattle.cred_script.specs.Lines.{line_at}
 use Rattle.cred_script.specs.Sound.{AreApart}
 use Rattle.cred_hold.specs.Tokens.{Loan}
 use Rattle.cred_work.specs.Decisions.{AreOf, work_event}
-use Rattle.cred_work.specs.declared.lent.Lent.{Lent}
-use Rattle.cred_work.specs.declared.lent.Lent.TheVariants.{Altering}
+use Rattle.cred_work.specs.declared.pending.Pending.{Pending}
+use Rattle.cred_work.specs.declared.pending.Pending.TheVariants.{Altering}
 use Rattle.cred_work.specs.Work.{Work}
 use Rattle.cred_work.specs.DecidedWorks.{IsUndecided}
 use Rattle.cred_tables.specs.Out.{AreBack, tokens_in, needs_tokens}
 use Rattle.cred_state.specs.TokensOut.{AreTaken, IsChain, loans_of}
-use Rattle.cred_book.specs.Book.{Recorded, infos_in, out_of, with_event}
+use Rattle.cred_book.specs.Book.{Recorded, inodes_in, out_of, with_event}
 
 -- No label stands in the words of lines of two lanes, neither of which is the setup. And none of
 -- them is one that a line takes for itself.
@@ -63,26 +63,26 @@ MayMake script number event =
 -- A work of some line of the script, where these are its files as they stand: its tokens are of
 -- these cells, its line may make its event, and its file and its root ids are those that the event
 -- is decided by.
-pub record IsWorkOf (script : Script) (infos : List File) (cells : TableId) (work : Work) : Type 0
+pub record IsWorkOf (script : Script) (inodes : List File) (cells : TableId) (work : Work) : Type 0
   where
     pub own : AreOf cells work.lent
     pub made : MayMake script work.line (work_event work.lent)
-    pub file : work.file ≡ info_of infos (event_files (work_event work.lent))
+    pub file : work.file ≡ info_of inodes (event_files (work_event work.lent))
     pub chain : IsChain script work.lent work.chain
 
 -- The work is the lane's: it is one of the book's script and cells, its file is as it stands now,
 -- and its line is the one whose work is out.
 pub record IsOfLane (book : Recorded) (lane : ℕ) (work : Work) : Type 0 where
-  pub of : IsWorkOf book.script (infos_in book) book.words.id work
+  pub of : IsWorkOf book.script (inodes_in book) book.words.id work
   pub out : out_of book lane ≡ Some work.line
 
 -- what stands in the slots once these tokens are lent: in one that is lent to be written, nothing
-abbrev pub places_of : Lent → List (Option Credential) → List (Option Credential)
+abbrev pub places_of : Pending → List (Option Credential) → List (Option Credential)
 places_of (Altering base writer change made) places = slice_set places writer.slot None
 places_of lent places = places
 
 -- the book of which these tokens are lent for this line of the lane
-abbrev pub with_out : Recorded → ℕ → ℕ → Lent → Recorded
+abbrev pub with_out : Recorded → ℕ → ℕ → Pending → Recorded
 with_out book lane line lent = record book {
   outs = set book.outs lane (Some line);
   words = record book.words { out = loans_of lent ++ book.words.out };
@@ -96,7 +96,7 @@ with_work book lane work = with_out book lane work.line work.lent
 -- the root ids that the event is decided by, on what is lent for it after the book's journal
 abbrev pub IsChainFor : Recorded → Event → List ℕ → Type 0
 IsChainFor book event chain =
-    (lent : Lent) → work_event lent ≡ event
+    (lent : Pending) → work_event lent ≡ event
     → loans_of lent ≡ tokens_in (replay book.script book.journal) event
     → IsChain book.script lent chain
 
@@ -110,7 +110,7 @@ pub record GoesOut (before after : Recorded) (lane n : ℕ) (asked : Event) (wor
     pub waits : needs_tokens (replay before.script before.journal) asked ≡ true
     pub own : AreOf before.words.id work.lent
     pub tokens : loans_of work.lent ≡ tokens_in (replay before.script before.journal) asked
-    pub file : work.file ≡ info_of (infos_in before) (event_files asked)
+    pub file : work.file ≡ info_of (inodes_in before) (event_files asked)
     pub chain : IsChainFor before asked work.chain
     pub lent : after ≡ with_work before lane work
 

@@ -11,7 +11,7 @@ ghost use Rattle.cred_script.specs.Lines.{line_at};
 ghost use Rattle.cred_course.specs.Cursor.{IsOfLine, MovesOnTo};
 ghost use Rattle.cred_tables.specs.Kept.{AreInPlace};
 ghost use Rattle.cred_tables.specs.Out.{AreHome};
-ghost use Rattle.cred_book.specs.Book.{with_event, answer_of, infos_in, out_of};
+ghost use Rattle.cred_book.specs.Book.{with_event, answer_of, inodes_in, out_of};
 ghost use Rattle.cred_book.specs.Counts.{Counts, ended_of};
 ghost use Rattle.cred_book.specs.Cursor.{NoLineIsLeft, IsLeastLane, Makes, BookStands, has_left};
 ghost use Rattle.cred_book.specs.Cursor.{steps_left, moved_on};
@@ -30,7 +30,7 @@ use cred_hold::Cells;
 use cred_ids::NoMemory;
 use cred_script::Script;
 use cred_state::State;
-use cred_work::Asked;
+use cred_work::Request;
 use std::alloc::Global;
 use std::marker::Model;
 
@@ -54,7 +54,7 @@ pub struct Book {
     cursors: Cursors,
     ended: Vec<u32>,
     outs: Vec<Option<u32>>,
-    spare: Option<Asked>,
+    spare: Option<Request>,
     alloc: Global,
 }
 
@@ -153,7 +153,7 @@ impl Book {
             spare: None,
             alloc,
         };
-        book.stands();
+        book.check_in_place();
         Ok((book, cells))
     }
 
@@ -199,7 +199,7 @@ impl Book {
         ensures in_place { AreInPlace (replay self.new.script self.new.journal) self.new.places }
         ensures err { OnErr result (self.new ≡ record self.old { places = self.new.places }) }
     {
-        self.stands();
+        self.check_in_place();
         let Ok(()) = self.kept.reserve(1) else {
             drop(event);
             return Err(NoMemory);
@@ -211,7 +211,7 @@ impl Book {
         let Ok(copied) = copy_answer(&answer) else {
             drop(event);
             drop(answer);
-            self.stands();
+            self.check_in_place();
             return Err(NoMemory);
         };
         self.kept.push_reserved(Entry {
@@ -219,7 +219,7 @@ impl Book {
             event,
             answer,
         });
-        self.stands();
+        self.check_in_place();
         Ok(copied)
     }
 
@@ -250,10 +250,10 @@ impl Book {
         ensures in_place { AreInPlace (replay self.new.script self.new.journal) self.new.places }
         ensures home { NoLineIsLeft self.new → self.new.words.out ≡ [] }
         // Only the setup changes files.
-        ensures files { lane ≢ 0 → infos_in self.new ≡ infos_in self.old }
+        ensures files { lane ≢ 0 → inodes_in self.new ≡ inodes_in self.old }
         ensures err { OnErr result (self.new ≡ self.old) }
     {
-        self.stands();
+        self.check_in_place();
         let Some(course) = self.cursors.due(lane) else {
             return Ok(Step::Ended);
         };
@@ -262,12 +262,12 @@ impl Book {
         };
         let line = course.line();
         if let Some(work) = self.hand_out(cells, lane, line, &event)? {
-            self.stands();
+            self.check_in_place();
             return Ok(Step::Work(work));
         }
         let cursor = self.enter(cells, lane, course, event)?;
         self.move_on(lane, line, cursor);
-        self.stands();
+        self.check_in_place();
         Ok(Step::More)
     }
 
@@ -292,10 +292,10 @@ impl Book {
     /// Each credential that something refers to, after the journal, stands in the words of its
     /// slot. Nothing runs: it is called for its clause alone.
     #[inline(always)]
-    fn stands(&self)
+    fn check_in_place(&self)
         ensures { AreInPlace (replay self.now.script self.now.journal) self.now.places }
     {
-        self.state.stands();
+        self.state.check_in_place();
     }
 
     /// Enters the next event of a lane's course, and returns the lane's cursor after it; the book's

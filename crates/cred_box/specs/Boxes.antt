@@ -54,8 +54,9 @@ pub record IsIn (box : Box) (c : Credential) : Type 0 where
   -- the flag can't be unset: by whoever may set securebits it is locked
   pub locked : box.rooted ≡ false → has box.perm SETPCAP ≡ true → is_locked c.bits NoRoot ≡ true
 
--- No call but an execve leads out of the box: nobody in it has CAP_SETUID; each user id may become the filesystem one; the inheritable set has what capset(2) may give it;
--- and where an execve may make root, the permitted set has all that this gives.
+-- No call but an execve leads out of the box: nobody in it has CAP_SETUID; each user id may become
+-- the filesystem one; the inheritable set has what capset(2) may give it; and where an execve may
+-- make root, the permitted set has all that this gives.
 pub record IsTight (box : Box) : Type 0 where
   pub no_setuid : has box.perm SETUID ≡ false
   pub fs_has : (user : ℕ) → is_in box.users user ≡ true → is_in box.fs user ≡ true

@@ -1,1 +1,1 @@
-mod LastDigit
+mod Decimal

@@ -25,7 +25,7 @@ fn write_cred(out: &mut ForwardPen, word: &str, cred: u64, slot: u32)
     out.word(word);
     out.cred(cred);
     out.word(" s");
-    out.number(u64::from(slot))
+    out.slot(slot)
 }
 
 /// Writes the answer to an event that seals a credential or takes one.

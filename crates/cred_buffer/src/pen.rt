@@ -200,7 +200,7 @@ impl ForwardPen {
     /// Writes the number after the text, in decimal. Most numbers of a report have one digit or
     /// two, which need no call.
     #[inline(always)]
-    #[tactic(auto, using(std::proofs::lemmas::Fmt::decimal_digit, crate::proofs::LastDigit::two_digits))]
+    #[tactic(auto, using(std::proofs::lemmas::Fmt::decimal_digit, crate::proofs::Decimal::of_two))]
     pub(crate) fn number(&mut self, number: u64)
         requires { NUMBER ≤ self.old.room }
         ensures text { self.new.text ≡ self.old.text ++ decimal number }
@@ -212,6 +212,28 @@ impl ForwardPen {
             self.piece(&[b'0' + (number / 10) as u8, b'0' + (number % 10) as u8])
         } else {
             self.digits(number)
+        }
+    }
+
+    /// Writes the number of a slot after the text, in decimal. Most slots of a long script have
+    /// three digits.
+    #[inline(always)]
+    #[tactic(auto, using(crate::proofs::Decimal::of_three))]
+    pub(crate) fn slot(&mut self, number: u32)
+        requires { NUMBER ≤ self.old.room }
+        ensures text { self.new.text ≡ self.old.text ++ decimal number }
+        ensures room { self.old.room ≤ self.new.room + NUMBER }
+    {
+        if number < 100 {
+            self.number(u64::from(number))
+        } else if number < 1000 {
+            self.piece(&[
+                b'0' + (number / 100) as u8,
+                b'0' + (number / 10 % 10) as u8,
+                b'0' + (number % 10) as u8,
+            ])
+        } else {
+            self.digits(u64::from(number))
         }
     }
 

@@ -6,7 +6,7 @@ use Rattle.std.proofs.lemmas.Nat.Bits.{bit_at_and, bit_at_or, bit_at-lt, bit_at-
 use Rattle.cred_caps.specs.declared.secure.Flag.{Flag}
 use Rattle.cred_caps.specs.declared.secure.Flag.TheVariants.{NoRoot, NoSetuidFixup, KeepCaps, NoAmbientRaise}
 use Rattle.cred_caps.specs.Flags.{SetsFlag, AreFlags}
-use Rattle.cred_caps.specs.Secure.{flag_place, is_set, is_locked, with_secure_flag}
+use Rattle.cred_caps.specs.Secure.{LAST_BITS, flag_place, is_set, is_locked, with_secure_flag}
 
 -- a flag stands at an even place below 8
 record Stands (n : ℕ) : Type 0 where
@@ -21,7 +21,7 @@ stands KeepCaps = record { half = 2; even = refl; small = omega arith }
 stands NoAmbientRaise = record { half = 3; even = refl; small = omega arith }
 
 -- bit n of all bits but that of the flag
-bit_at-all_but : (f : Flag) (n : ℕ) → n < 8 → bit_at (2 ^ 8 - 1 - 2 ^ flag_place f) n ≡ 1 - bit_at (2 ^ flag_place f) n
+bit_at-all_but : (f : Flag) (n : ℕ) → n < 8 → bit_at (LAST_BITS - 2 ^ flag_place f) n ≡ 1 - bit_at (2 ^ flag_place f) n
 bit_at-all_but f n small = bit_at_not w8 (2 ^ flag_place f) n (pow_below (flag_place f) 8 (stands f).small) small
 
 -- bit n once the flag is set, and once it is unset
@@ -30,7 +30,7 @@ bit_at-set bits f n = bit_at_or bits (2 ^ flag_place f) n
 
 bit_at-unset : (bits : ℕ) (f : Flag) (n : ℕ) → n < 8 → bit_at (with_secure_flag bits f false) n ≡ min (bit_at bits n) (1 - bit_at (2 ^ flag_place f) n)
 bit_at-unset bits f n small =
-    bit_at_and bits (2 ^ 8 - 1 - 2 ^ flag_place f) n ∙ ap (min (bit_at bits n)) (bit_at-all_but f n small)
+    bit_at_and bits (LAST_BITS - 2 ^ flag_place f) n ∙ ap (min (bit_at bits n)) (bit_at-all_but f n small)
 
 itself : (bits : ℕ) (f : Flag) (on : Bool) → is_set (with_secure_flag bits f on) f ≡ on
 itself bits f true =

@@ -6,6 +6,10 @@ use Rattle.cred_caps.specs.declared.secure.Flag.{Flag}
 use Rattle.cred_caps.specs.declared.secure.Flag.TheVariants.{NoRoot, NoSetuidFixup, KeepCaps}
 use Rattle.cred_caps.specs.declared.secure.Flag.TheVariants.{NoAmbientRaise}
 
+-- the greatest number of them: every flag and every lock is set
+abbrev pub LAST_BITS : ℕ
+LAST_BITS = 255
+
 -- the bit of a flag
 abbrev pub flag_place : Flag → ℕ
 flag_place NoRoot = 0
@@ -21,7 +25,7 @@ is_set bits f = bit_at bits (flag_place f) == 1
 abbrev pub is_locked : ℕ → Flag → Bool
 is_locked bits f = bit_at bits (flag_place f + 1) == 1
 
--- the securebits with the flag set or unset, and every other of the eight bits as it was
+-- the securebits with the flag set or unset, and every other bit as it was
 abbrev pub with_secure_flag : ℕ → Flag → Bool → ℕ
 with_secure_flag bits f true = bit_or bits (2 ^ flag_place f)
-with_secure_flag bits f false = bit_and bits (2 ^ 8 - 1 - 2 ^ flag_place f)
+with_secure_flag bits f false = bit_and bits (LAST_BITS - 2 ^ flag_place f)

@@ -10,5 +10,5 @@ pub mod set;
 
 pub use cap::Cap;
 pub use names::{cap_name, cap_of_name};
-pub use secure::{Flag, SecureBits};
+pub use secure::{Flag, LAST_BITS, SecureBits};
 pub use set::CapSet;

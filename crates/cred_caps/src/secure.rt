@@ -1,6 +1,7 @@
 //! The securebits of a task.
-ghost use Rattle.std.specs.Prelude.{◌≡◌, ◌<◌, ◌^◌};
+ghost use Rattle.std.specs.Prelude.{◌≡◌, ◌≤◌, ◌^◌};
 ghost use Rattle.std.specs.Option.{SomeIff};
+ghost use Rattle.cred_caps.specs.Secure as spec;
 ghost use Rattle.cred_caps.specs.Secure.{flag_place, is_set, is_locked, with_secure_flag};
 
 use crate::bits::SecureFlags;
@@ -21,8 +22,16 @@ pub enum Flag {
     NoAmbientRaise,
 }
 
-/// The securebits of a task, the flags and their locks. Contracts see the number of its bits 0 to
-/// 7, which is below 256.
+/// The greatest number of securebits: every flag and every lock is set.
+pub const LAST_BITS: u32 = 255;
+
+/// That constant is the definitions'.
+pub fn last_bits_is_the_definitions()
+    ensures { LAST_BITS ≡ spec.LAST_BITS }
+{}
+
+/// The securebits of a task, the flags and their locks. Contracts see the number of its bits, which
+/// is at most `LAST_BITS`.
 #[derive(Clone, Copy, PartialEq, Eq, Debug)]
 pub struct SecureBits {
     bits: SecureFlags,
@@ -61,11 +70,11 @@ impl SecureBits {
         }
     }
 
-    /// The securebits of a number. `None` exactly above 255.
+    /// The securebits of a number. `None` exactly above `LAST_BITS`.
     pub fn new(n: u32) -> Option<SecureBits>
-        ensures { SomeIff result (n < 256) n }
+        ensures { SomeIff result (n ≤ spec.LAST_BITS) n }
     {
-        if n > 255 {
+        if n > LAST_BITS {
             return None;
         }
         Some(SecureBits {
@@ -73,10 +82,10 @@ impl SecureBits {
         })
     }
 
-    /// The bits as a number, 0 to 255.
+    /// The bits as a number, at most `LAST_BITS`.
     pub fn number(&self) -> u32
         ensures value { result ≡ self.now }
-        ensures small { result < 256 }
+        ensures small { result ≤ spec.LAST_BITS }
     {
         u32::from(self.bits.0)
     }

@@ -45,7 +45,7 @@ impl CapSet {
 
     /// The set of bits that are known to be one, which aren't tested.
     #[inline(always)]
-    pub fn known(bits: u64) -> CapSet
+    pub fn from_valid(bits: u64) -> CapSet
         requires { IsCaps bits }
         ensures { result ≡ bits }
     {

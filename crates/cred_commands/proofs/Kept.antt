@@ -5,7 +5,7 @@ use Rattle.std.specs.Io.KnownBytes.{Appends}
 use Rattle.std.proofs.KnownBytes.{Appends-nil}
 use Rattle.cred_io.specs.declared.sink.SinkRefusal.{SinkRefusal}
 use Rattle.cred_commands.proofs.Order.{begins_sequence, nothing_past}
-use Rattle.cred_said.proofs.Prefixes.{refused_apart, whole}
+use Rattle.cred_output.proofs.Prefixes.{refused_apart, whole}
 use Rattle.std.specs.Result.{OnOk, OnErr}
 use Rattle.cred_io.specs.Ends.{AppendsPrefix}
 use Rattle.cred_io.proofs.Known.{appends_more}
@@ -16,8 +16,8 @@ use Rattle.cred_commands.specs.Order.{HasRun, IsAfter}
 use Rattle.cred_commands.proofs.Ends.{goes_to_end, is_whole, nothing_run}
 use Rattle.cred_report.specs.Text.{entry_text, text}
 use Rattle.cred_report.proofs.Journals.{take_past}
-use Rattle.cred_said.specs.Ends.{status_after}
-use Rattle.cred_said.specs.declared.status.Status.TheVariants as status
+use Rattle.cred_output.specs.Ends.{status_after}
+use Rattle.cred_output.specs.declared.status.Status.TheVariants as status
 use Rattle.cred_commands.specs.Sequences.{AppendsSequence, WritesSequenceStart, HandsOver}
 use Rattle.cred_commands.specs.Writing.{WritesLine}
 

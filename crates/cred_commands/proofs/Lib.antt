@@ -1,5 +1,5 @@
 pub mod Order
-pub mod Goes
+pub mod RunningLine
 pub mod Ends
 pub mod Pushed
 pub mod Kept

@@ -1,6 +1,7 @@
 -- A run in order whose entries are summed up as they come.
 use Rattle.std.proofs.Common.{◌≡◌, ℕ, ◌+◌, ◌≤◌, List, [], ◌++◌, length, sym, ap, ◌∙◌, subst, arith}
 use Rattle.std.proofs.lemmas.List.{length-append}
+use Rattle.cred_ids.specs.Limits.{LINE_LIMIT}
 use Rattle.cred_event.specs.declared.entry.Entry.{Entry}
 use Rattle.cred_model.specs.Script.{Script}
 use Rattle.cred_model.specs.State.{State, opening}
@@ -31,7 +32,7 @@ told_first script state told opens nothing = record {
 }
 
 -- where the list was empty before the line
-pub told_room : (script : Script) (past : ℕ) (state after : State) (told : Summary) (has : List Entry) → length script.lines ≤ 20000
+pub told_room : (script : Script) (past : ℕ) (state after : State) (told : Summary) (has : List Entry) → length script.lines ≤ LINE_LIMIT
     → Told script past state told → RunsOn script past state after [] has → HasRoom told (length has)
 told_room script past state after told has lines is runs =
     let before = is.few in

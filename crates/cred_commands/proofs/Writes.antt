@@ -26,7 +26,7 @@ use Rattle.cred_course.specs.Cursor.{left_at}
 use Rattle.cred_course.specs.Waiting.{waiting}
 use Rattle.cred_report.specs.Text.{entry_text, text}
 use Rattle.cred_sound.specs.Sound.{IsSound}
-use Rattle.cred_commands.proofs.Goes.{Goes, GoesOn, goes_by, goes_first, goes_out, goes_sound}
+use Rattle.cred_commands.proofs.RunningLine.{RunsLine, GoesOn, goes_by, goes_first, goes_out, goes_sound}
 use Rattle.cred_commands.specs.Order.{HasRun}
 use Rattle.cred_ids.specs.Limits.{TRIES}
 use Rattle.std.specs.Prelude.{nat_lt}
@@ -38,7 +38,7 @@ use Rattle.cred_commands.specs.Writing.{commit_outcome, HasContent, WritesEvent,
 -- The line has come as far as the course, and the text of its entries so far was written.
 pub record Writes (script : Script) (past : ℕ) (before now : State) (content : Content) (course : Course) (had has : List ℕ) : Type 0 where
   pub made : List Entry
-  pub goes : Goes script past before now [] made content course
+  pub goes : RunsLine script past before now [] made content course
   pub written : has ≡ had ++ text script made
 
 -- the line that has a content

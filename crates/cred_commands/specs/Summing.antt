@@ -10,10 +10,10 @@ use Rattle.cred_grammar.specs.Grammar.{script_of}
 use Rattle.cred_generate.specs.Generated.{CALLS, generated, text_of}
 use Rattle.cred_generate.specs.Summary.{summary}
 use Rattle.cred_generate.specs.declared.summing.Summary.{Summary}
-use Rattle.cred_said.specs.Ends.{IsForText}
-use Rattle.cred_said.specs.Texts.{summary_text}
-use Rattle.cred_said.specs.declared.status.Status.{Status}
-use Rattle.cred_said.specs.declared.status.Status.TheVariants as status
+use Rattle.cred_output.specs.Ends.{IsForText}
+use Rattle.cred_output.specs.Texts.{summary_text}
+use Rattle.cred_output.specs.declared.status.Status.{Status}
+use Rattle.cred_output.specs.declared.status.Status.TheVariants as status
 
 -- a script may be made from the number
 pub record IsCount (n : ℕ) : Type 0 where

@@ -47,7 +47,7 @@ pub fn run_line(
             answer: state.step(cells, script, number, &event)?,
             event,
         });
-        course.took(content, &entries[place].answer);
+        course.advance(content, &entries[place].answer);
     }
     Ok(())
 }

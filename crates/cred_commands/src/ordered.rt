@@ -7,15 +7,15 @@ ghost use Rattle.cred_model.specs.Journal.{IsSequence};
 ghost use Rattle.cred_model.specs.State.{opening};
 ghost use Rattle.cred_io.specs.Causes.{CountsFaults};
 ghost use Rattle.cred_io.specs.Ends.{AppendsPrefix};
-ghost use Rattle.cred_said.specs.Ends.{IsForText};
-ghost use Rattle.cred_said.specs.Leaves.{IsReading, IsWriting, LeavesReport};
+ghost use Rattle.cred_output.specs.Ends.{IsForText};
+ghost use Rattle.cred_output.specs.Leaves.{IsReading, IsWriting, LeavesReport};
 ghost use Rattle.cred_commands.specs.Sequences.{AppendsSequence, WritesSequenceStart, HandsOver};
 
 use crate::straight::write_line;
 use cred_buffer::ReportBuffer;
 use cred_hold::Cells;
 use cred_io::{Sink, SinkRefusal, Source, write_all};
-use cred_said::{Status, finish, read_script};
+use cred_output::{Status, finish, read_script};
 use cred_script::Script;
 use cred_state::State;
 use std::alloc::Global;
@@ -56,7 +56,7 @@ fn write_some<K: Sink>(sink: &mut K, out: &mut ReportBuffer) -> Result<(), SinkR
 fn write_last<K: Sink>(sink: &mut K, out: &ReportBuffer) -> Result<(), SinkRefusal>
     ensures ok { OnOk result (Appends (K.written sink.old) (K.written sink.new) out.now) }
     ensures err { OnErr result (AppendsPrefix (K.written sink.old) (K.written sink.new) out.now) }
-    ensures handed_on { OnOk result (K.handed_on sink.new ≡ true) }
+    ensures flushed { OnOk result (K.flushed sink.new ≡ true) }
     ensures cause { CountsFaults (result ≡ Err SinkRefusal.Failed)
         (K.faults sink.old) (K.faults sink.new) }
 {
@@ -84,7 +84,7 @@ fn write_lines<K: Sink>(
         (AppendsSequence script.now (K.written sink.old) (K.written sink.new)) }
     ensures err { OnErr result
         (WritesSequenceStart script.now (K.written sink.old) (K.written sink.new)) }
-    ensures handed_on { OnOk result (K.handed_on sink.new ≡ true) }
+    ensures flushed { OnOk result (K.flushed sink.new ≡ true) }
     ensures cause { CountsFaults (result ≡ Err SinkRefusal.Failed)
         (K.faults sink.old) (K.faults sink.new) }
 {
@@ -113,7 +113,7 @@ fn write_in_order<K: Sink>(alloc: Global, sink: &mut K, script: &Script) -> Resu
         (AppendsSequence script.now (K.written sink.old) (K.written sink.new)) }
     ensures err { OnErr result
         (WritesSequenceStart script.now (K.written sink.old) (K.written sink.new)) }
-    ensures handed_on { OnOk result (K.handed_on sink.new ≡ true) }
+    ensures flushed { OnOk result (K.flushed sink.new ≡ true) }
     ensures cause { CountsFaults (result ≡ Err SinkRefusal.Failed)
         (K.faults sink.old) (K.faults sink.new) }
 {
@@ -131,7 +131,7 @@ fn report_in_order<K: Sink>(alloc: Global, sink: &mut K, script: &Script) -> Sta
         → AppendsSequence script.now (K.written sink.old) (K.written sink.new) }
     ensures prefix { WritesSequenceStart script.now (K.written sink.old) (K.written sink.new) }
     ensures only { IsForText result }
-    ensures writing { IsWriting result (K.handed_on sink.new)
+    ensures writing { IsWriting result (K.flushed sink.new)
         (K.faults sink.old) (K.faults sink.new) }
 {
     finish(write_in_order(alloc, sink, script), Status::Done)
@@ -143,7 +143,7 @@ pub fn read_and_run<S: Source, K: Sink>(alloc: Global, source: &mut S, sink: &mu
         (K.written sink.old) (K.written sink.new) }
     ensures reading { IsReading BYTE_LIMIT result (S.left source.old) (S.left source.new)
         (S.faults source.old) (S.faults source.new) }
-    ensures writing { IsWriting result (K.handed_on sink.new)
+    ensures writing { IsWriting result (K.flushed sink.new)
         (K.faults sink.old) (K.faults sink.new) }
     ensures silent { (result ≡ Status.ReadFault) ⊎ (result ≡ Status.TooLarge)
         → sink.new ≡ sink.old }

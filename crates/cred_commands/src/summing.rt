@@ -1,16 +1,16 @@
 //! The summary of a script that is made from a number.
 ghost use Rattle.std.specs.Prelude.{◌≡◌, [], IfOk, string_bytes};
 ghost use Rattle.cred_model.specs.State.{opening};
-ghost use Rattle.cred_said.specs.Leaves.{IsWriting};
+ghost use Rattle.cred_output.specs.Leaves.{IsWriting};
 ghost use Rattle.cred_commands.specs.Summing.{IsCount, LeavesSummary, SaysSummary, TellsSequence};
-ghost use Rattle.cred_said.specs.Texts as spec;
+ghost use Rattle.cred_output.specs.Texts as spec;
 
 use crate::line::run_line;
 use cred_generate::{Summary, generate};
 use cred_hold::Cells;
 use cred_ids::NoMemory;
 use cred_io::Sink;
-use cred_said::{Said, Status, tell_said};
+use cred_output::{Message, Status, write_message};
 use cred_script::Script;
 use cred_state::State;
 use std::alloc::Global;
@@ -19,21 +19,21 @@ use std::alloc::Global;
 pub fn run_gen<K: Sink>(alloc: Global, n: u32, sink: &mut K) -> Status
     requires { IsCount n }
     ensures summary { LeavesSummary n result (K.written sink.old) (K.written sink.new) }
-    ensures writing { IsWriting result (K.handed_on sink.new)
+    ensures writing { IsWriting result (K.flushed sink.new)
         (K.faults sink.old) (K.faults sink.new) }
 {
-    tell_said(sink, say(alloc, n))
+    write_message(sink, message_of(alloc, n))
 }
 
 /// The text of the script's summary, with its status.
-fn say(alloc: Global, n: u32) -> Result<Said, NoMemory>
+fn message_of(alloc: Global, n: u32) -> Result<Message, NoMemory>
     requires { IsCount n }
-    ensures { IfOk result (λ said. SaysSummary n said.status said.text.items) }
+    ensures { IfOk result (λ message. SaysSummary n message.status message.text.items) }
 {
     let script = generate(alloc, n)?;
     let summary = sum_in_order(alloc, &script);
     drop(script);
-    Ok(Said::of(Status::Done, summary_text(alloc, summary?)?))
+    Ok(Message::of(Status::Done, summary_text(alloc, summary?)?))
 }
 
 /// The summary of the run in which all lines of the script run whole and in order, on this state,

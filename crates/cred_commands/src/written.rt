@@ -187,8 +187,8 @@ pub fn commit(
     requires own { state.old.words.id ≡ cells.now }
     requires out { state.old.words.out ≡ [] }
     requires sound { IsSound state.old.state }
-    ensures made { IfOk result (λ came. WritesEvent (λ answer. came ≡ commit_outcome answer) script.now line
-        (event.Commit label) state.old.state state.new.state out.old out.new) }
+    ensures made { IfOk result (λ came. WritesEvent (λ answer. came ≡ commit_outcome answer)
+        script.now line (event.Commit label) state.old.state state.new.state out.old out.new) }
     ensures words { state.new.words ≡ state.old.words }
 {
     let answer = state.commit(cells, label)?;
@@ -237,8 +237,9 @@ pub fn begin(
     requires own { state.old.words.id ≡ cells.now }
     requires out { state.old.words.out ≡ [] }
     requires sound { IsSound state.old.state }
-    ensures made { IfOk result (λ wait. WritesEvent (λ answer. wait ≡ spec.some_wait answer) script.now line
-        (event.Begin task call.now) state.old.state state.new.state out.old out.new) }
+    ensures made { IfOk result (λ wait. WritesEvent (λ answer. wait ≡ spec.some_wait answer)
+        script.now line (event.Begin task call.now) state.old.state state.new.state
+        out.old out.new) }
     ensures words { state.new.words ≡ state.old.words }
 {
     let answer = state.begin(cells, line, task, call)?;
@@ -264,8 +265,8 @@ pub fn act(
     requires own { state.old.words.id ≡ cells.now }
     requires out { state.old.words.out ≡ [] }
     requires sound { IsSound state.old.state }
-    ensures made { IfOk result (λ wait. WritesEvent (λ answer. wait ≡ spec.some_wait answer) script.now line
-        (event.Act line) state.old.state state.new.state out.old out.new) }
+    ensures made { IfOk result (λ wait. WritesEvent (λ answer. wait ≡ spec.some_wait answer)
+        script.now line (event.Act line) state.old.state state.new.state out.old out.new) }
     ensures words { state.new.words ≡ state.old.words }
 {
     let answer = state.act(cells, line)?;

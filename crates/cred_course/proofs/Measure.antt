@@ -25,7 +25,7 @@ use Rattle.cred_model.specs.Step.{step}
 use Rattle.cred_model.proofs.Courses.{after_line, leads_on}
 use Rattle.cred_model.proofs.Journals.{replay-push}
 use Rattle.cred_script.specs.Lines.{line_at}
-use Rattle.cred_sound.proofs.Few.{few_after}
+use Rattle.cred_sound.proofs.TaskCount.{few_after}
 use Rattle.cred_sound.proofs.Sound.{sound_after}
 use Rattle.cred_course.specs.Cursor.{left_at, new_waiters, new_waiters_at}
 use Rattle.cred_course.specs.Waiting.{waiting}

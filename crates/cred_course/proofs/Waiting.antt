@@ -8,7 +8,7 @@ use Rattle.cred_ids.specs.Ordered.{in_order}
 use Rattle.cred_model.specs.State.{Broadcast}
 use Rattle.cred_model.specs.Broadcasts.{is_open, joined, waits_in, waits_no_more, with_broadcast, with_child, without_waiter, SharesNone}
 use Rattle.cred_model.proofs.Rising.{AllPairs-head, AllPairs-tail, length-in_order}
-use Rattle.cred_cast.proofs.Joined.{joined_none}
+use Rattle.cred_broadcasts.proofs.Joined.{joined_none}
 use Rattle.cred_course.specs.Waiting.{waiting_in}
 
 abbrev waits : Broadcast → ℕ

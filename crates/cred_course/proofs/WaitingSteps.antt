@@ -33,7 +33,7 @@ use Rattle.cred_sound.proofs.Parts.{TasksChange, Cause, Creation, Death, begun, 
 use Rattle.cred_sound.proofs.Parts.{ByAbort}
 use Rattle.cred_sound.proofs.Parts.{SameTasks, SetsFlag, Creates, Shares, Renews, Overrides, Fewer}
 use Rattle.cred_sound.proofs.Events.{changes}
-use Rattle.cred_cast.proofs.Conditions.{broadcasts_are, least_waits}
+use Rattle.cred_broadcasts.proofs.Conditions.{broadcasts_are, least_waits}
 use Rattle.cred_course.specs.Waiting.{waiting, waiting_in}
 use Rattle.cred_course.proofs.Waiting.{waiting-acted, waiting-begun, waiting-filter, waiting-joined, waiting-left}
 

@@ -99,7 +99,7 @@ impl Course {
     /// Leads the line on by the answer to its event. The content is the line's. Then it has fewer
     /// events left; nothing is said of an id call, which every thread of the process makes.
     #[inline(always)]
-    pub fn took(&mut self, content: &Content, answer: &Answer)
+    pub fn advance(&mut self, content: &Content, answer: &Answer)
         requires leads { Leads content.now self.old }
         requires goes_on { is_some self.old.stage ≡ true }
         ensures after { self.new ≡ after content.now self.old answer.now }

@@ -57,7 +57,7 @@ pub fn cursor_after(script: &Script, lane: u32, course: Course, answer: &Answer)
 {
     let (_, content) = script.line(course.line())?;
     let mut course = course;
-    course.took(content, answer);
+    course.advance(content, answer);
     first_left(script, lane, course)
 }
 

@@ -8,9 +8,9 @@ ghost use Rattle.cred_event.specs.declared.event.Side.TheVariants.{Subjective, O
 ghost use Rattle.cred_model.specs.Course as spec;
 
 use cred_copies::copy_event;
-use cred_event::{Change, Content, Event, FileCall, Mode, Query, Side, Stage};
+use cred_event::{Change, Content, Event, FileCall, Query, Side, Stage};
 use cred_ids::{NoMemory, limits};
-use cred_record::{Want, copy_attr};
+use cred_record::{PtraceMode, Want, copy_attr};
 
 /// Whether a line with this content makes events.
 pub(crate) fn makes_events(content: &Content) -> bool
@@ -215,7 +215,7 @@ fn signal_event(line: u32, task: u32, to: u32, stage: Stage) -> Option<Event>
     }
 }
 
-fn ptrace_event(line: u32, task: u32, to: u32, mode: Mode, stage: Stage) -> Option<Event>
+fn ptrace_event(line: u32, task: u32, to: u32, mode: PtraceMode, stage: Stage) -> Option<Event>
     requires { line ≤ LINE_LIMIT }
     ensures { result ≡ spec.event_in line (content.Ptrace task to mode) stage }
 {

@@ -3,7 +3,7 @@ use Rattle.std.proofs.Common.{◌≡◌, ℕ, zero, suc, ◌<◌, List, [], ◌�
 use Rattle.std.specs.Option.{option_map}
 use Rattle.std.proofs.lemmas.Option.{slice_get-map}
 use Rattle.cred_record.specs.File.{File}
-use Rattle.cred_model.specs.Script.{NamedFile, Script, infos_of}
+use Rattle.cred_model.specs.Script.{NamedFile, Script, inodes_of}
 use Rattle.cred_model.proofs.Lists.{slice_get_at}
 
 takes : {X : Type 0} (xs : List X) (k : ℕ) (x : X) → slice_get xs k ≡ Some x → take (suc k) xs ≡ take k xs ++ x ∷ []
@@ -16,9 +16,9 @@ takes (y ∷ ys) (suc k) x is = ap (λ zs. y ∷ zs) (takes ys k x is)
 -- with the file at the place
 pub takes_file : (script : Script) (place : ℕ) (file : File) (found : Option File)
     → found ≡ option_map (λ f. f.info) (slice_get script.files place) → found ≡ Some file
-    → take (suc place) (infos_of script) ≡ take place (infos_of script) ++ file ∷ []
+    → take (suc place) (inodes_of script) ≡ take place (inodes_of script) ++ file ∷ []
 takes_file script place file found is some =
-    takes (infos_of script) place file
+    takes (inodes_of script) place file
     (slice_get-map (λ (f : NamedFile). f.info) script.files place ∙ sym is ∙ some)
 
 -- there is one before the last

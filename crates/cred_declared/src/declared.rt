@@ -4,11 +4,11 @@ ghost use Rattle.std.specs.Prelude.{◌≡◌, ◌∷◌, [], IfOk, if◌then◌
 ghost use Rattle.std.specs.Option.{option_map};
 ghost use Rattle.cred_model.specs.Answers.{checked};
 ghost use Rattle.cred_model.specs.Named.{change_files, event_files, query_files};
-ghost use Rattle.cred_model.specs.Script.{chain_of, infos_of, root_of};
+ghost use Rattle.cred_model.specs.Script.{chain_of, inodes_of, root_of};
 ghost use Rattle.cred_model.specs.State.{info_of};
 
+use crate::table::FileTable;
 use cred_access::may;
-use cred_attr::FileTable;
 use cred_event::{Answer, Change, Event, Query};
 use cred_ids::{Id, NoMemory};
 use cred_record::{Cred, FileInfo, Want};
@@ -21,7 +21,7 @@ use std::alloc::Global;
 ///
 /// `NoMemory` if there is no memory for the table.
 pub fn declared_files(alloc: Global, script: &Script) -> Result<FileTable, NoMemory>
-    ensures { IfOk result (λ files. files ≡ infos_of script.now) }
+    ensures { IfOk result (λ files. files ≡ inodes_of script.now) }
 {
     let mut files = FileTable::new(alloc);
     for place in 0..script.files().len() as u32 {

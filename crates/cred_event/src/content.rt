@@ -1,7 +1,7 @@
 //! What a line of a script holds, and where a line stands between its events.
-use crate::event::{Change, Event, Mode, Query};
+use crate::event::{Change, Event, Query};
 use cred_ids::Arg;
-use cred_record::{Attr, IdCall, Want};
+use cred_record::{Attr, IdCall, PtraceMode, Want};
 
 /// A call that changes a file of the script, or asks how it stands. The file is named by its place,
 /// counted from 0.
@@ -56,7 +56,7 @@ pub enum Content {
     Ptrace {
         task: u32,
         to: u32,
-        mode: Mode,
+        mode: PtraceMode,
     },
     /// The task changes its own credential.
     Change {

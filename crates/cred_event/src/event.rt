@@ -1,6 +1,6 @@
 //! The events: each is one step of the book.
 use cred_ids::{Arg, Id, Kind};
-use cred_record::{AdjCall, Attr, IdCall, Want};
+use cred_record::{AdjCall, Attr, IdCall, PtraceMode, Want};
 
 /// Which of a task's two credentials is meant (Documentation/security/credentials.rst).
 #[derive(Clone, Copy, PartialEq, Eq, Debug)]
@@ -9,16 +9,6 @@ pub enum Side {
     Subjective,
     /// The one that it is acted on by.
     Objective,
-}
-
-/// Which of its ids, and which of its capability sets, a task asks by to look into another
-/// (ptrace(2), "Ptrace access mode checking").
-#[derive(Clone, Copy, PartialEq, Eq, Debug)]
-pub enum Mode {
-    /// Its filesystem ids and its effective set: PTRACE_MODE_FSCREDS, as for `/proc/PID/exe`.
-    Fs,
-    /// Its real ids and its permitted set: PTRACE_MODE_REALCREDS, as for PTRACE_ATTACH.
-    Real,
 }
 
 /// A question about one credential.
@@ -176,7 +166,7 @@ pub enum Event {
         hold: u32,
         to: u32,
         target: u32,
-        mode: Mode,
+        mode: PtraceMode,
     },
     /// The file has this owner and this group from now on (chown(2)): the credential that `hold`
     /// holds decides. A file is named by its place among the script's files, counted from 0.

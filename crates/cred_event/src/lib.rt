@@ -13,4 +13,4 @@ mod event;
 pub use answer::{AbortCause, Answer, Counted, Named, Told};
 pub use content::{Content, FileCall, Stage};
 pub use entry::Entry;
-pub use event::{Change, Event, Mode, Query, Side};
+pub use event::{Change, Event, Query, Side};

@@ -6,7 +6,7 @@ use Rattle.std.specs.declared.option.Option.{Option}
 use Rattle.std.specs.List.{IsDistinct}
 use Rattle.cred_ids.specs.Limits.{OPEN_FILES}
 use Rattle.cred_model.specs.State.{OpenFile}
-use Rattle.cred_files.specs.declared.open_file.File.{File}
+use Rattle.cred_files.specs.declared.file_description.FileDescription.{FileDescription}
 
 -- What is true of the open files at all times.
 pub record AreOpen (files : List OpenFile) : Type 0 where
@@ -34,8 +34,8 @@ pub record Closes (before after : List OpenFile) (fd opener : ℕ) : Type 0 wher
 -- ---- how the open files are kept: each by its descriptor
 
 -- an entry of the map, as an open file
-abbrev pub file_as : ℕ → File → OpenFile
+abbrev pub file_as : ℕ → FileDescription → OpenFile
 file_as fd f = record { fd = fd; opener = f.opener; file = f.file }
 
-abbrev pub open_files : List (ℕ × File) → List OpenFile
+abbrev pub open_files : List (ℕ × FileDescription) → List OpenFile
 open_files entries = map (λ e. file_as e.0 e.1) entries

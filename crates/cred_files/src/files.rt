@@ -5,7 +5,7 @@ ghost use Rattle.std.specs.Option.{option_map};
 ghost use Rattle.cred_ids.specs.Limits.{OPEN_FILES};
 ghost use Rattle.cred_files.specs.Open.{AreOpen, file_as, file_under, descriptor_place, Closes};
 
-use crate::open_file::File;
+use crate::file_description::FileDescription;
 use cred_ids::{NoMemory, limits};
 use indexmap::IndexMap;
 use std::alloc::Global;
@@ -15,7 +15,7 @@ use std::marker::Model;
 /// system. Contracts see the list of the files, in the order in which they were opened.
 #[derive(Drop, Debug)]
 pub struct Files {
-    files: IndexMap<u32, File>,
+    files: IndexMap<u32, FileDescription>,
 }
 
 impl Model for Files {
@@ -76,7 +76,7 @@ impl Files {
             (self.new ≡ self.old ++ record { fd = fd; opener = opener; file = file } ∷ []) }
         ensures err { OnErr result (self.new ≡ self.old) }
     {
-        self.files.insert(fd, File { opener, file })?;
+        self.files.insert(fd, FileDescription { opener, file })?;
         Ok(())
     }
 
@@ -91,7 +91,7 @@ impl Files {
     }
 
     /// What is kept of the file at a descriptor. `None` where none is open there.
-    fn file(&self, fd: u32) -> Option<&File>
+    fn file(&self, fd: u32) -> Option<&FileDescription>
         ensures { option_map (λ f. file_as fd f.now) result ≡ file_under self.now fd }
     {
         self.files.get(&fd)

@@ -4,7 +4,7 @@
 //! file` does (Documentation/security/credentials.rst). None is searched for.
 #![tactic(auto)]
 
+mod file_description;
 pub mod files;
-mod open_file;
 
 pub use files::Files;

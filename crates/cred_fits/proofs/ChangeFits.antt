@@ -1,5 +1,5 @@
 -- What changes make of a credential, and gain, is in range.
-use Rattle.std.proofs.Common.{◌≡◌, ℕ, ◌-◌, ◌<◌, ◌≤◌, ◌^◌, ◌==◌, not, nat_le, nat_lt, Bool, true, false, cond, List, Option, Some, None, Result, Ok, Err, refl}
+use Rattle.std.proofs.Common.{◌≡◌, ℕ, ◌-◌, ◌≤◌, ◌^◌, ◌==◌, not, nat_le, nat_lt, Bool, true, false, cond, List, Option, Some, None, Result, Ok, Err, refl}
 use Rattle.std.proofs.Common.{arith}
 use Rattle.std.specs.Option.{IfSome}
 use Rattle.std.proofs.lemmas.Bool.Decides.{nat_tests}
@@ -11,7 +11,7 @@ use Rattle.cred_ids.specs.Id.{IsId}
 use Rattle.cred_caps.specs.declared.secure.Flag.TheVariants.{NoSetuidFixup, KeepCaps}
 use Rattle.cred_caps.specs.Caps.{Caps, IsCaps, empty, full, union, meet, with}
 use Rattle.cred_caps.specs.Numbers.{LAST, SETPCAP}
-use Rattle.cred_caps.specs.Secure.{is_set, is_locked, with_secure_flag}
+use Rattle.cred_caps.specs.Secure.{LAST_BITS, flag_place, is_set, is_locked, with_secure_flag}
 use Rattle.cred_caps.proofs.CapsLemmas.{IsCaps-union, IsCaps-one}
 use Rattle.cred_record.specs.Credential.{Credential, capable, first_credential, is_root}
 use Rattle.cred_record.specs.File.{File}
@@ -20,7 +20,7 @@ use Rattle.cred_record.specs.declared.adj_call.AdjCall.TheVariants as adj
 use Rattle.cred_record.specs.declared.refusal.Denial.{Denial}
 use Rattle.cred_record.specs.declared.refusal.Denial.TheVariants.{Perm, Invalid}
 use Rattle.cred_rules.specs.Access.{access_credential}
-use Rattle.cred_rules.specs.Adjust.{LAST_BITS, is_no_cap, may_capset, may_raise, may_set_bits, adjust, after_capset, after_bound_drop, after_amb_raise}
+use Rattle.cred_rules.specs.Adjust.{is_no_cap, may_capset, may_raise, may_set_bits, adjust, after_capset, after_bound_drop, after_amb_raise}
 use Rattle.cred_rules.specs.Adjust.{after_amb_lower, after_bits, after_keep_caps, after_no_new_privs}
 use Rattle.cred_rules.specs.Attribute.{Attribute}
 use Rattle.cred_rules.specs.Exec.NoExec.{MayNotExecute, SpellsNothing, GivesTooLittle}
@@ -58,7 +58,7 @@ first_fits user group ns root u g = record {
 
 -- the credential with these sets and securebits
 adjusted : (c new : Credential) → FitsCred c → new.uid ≡ c.uid → new.gid ≡ c.gid → new.groups ≡ c.groups
-    → IsCaps new.perm → IsCaps new.inh → IsCaps new.eff → IsCaps new.bound → IsCaps new.amb → new.bits < 2 ^ 8 → FitsCred new
+    → IsCaps new.perm → IsCaps new.inh → IsCaps new.eff → IsCaps new.bound → IsCaps new.amb → new.bits ≤ LAST_BITS → FitsCred new
 adjusted c new old u g groups perm inh eff bound amb bits = record {
   uid = rw u old.uid;
   gid = rw g old.gid;
@@ -79,9 +79,9 @@ tested false denial r h = h
 is_cap : (n : ℕ) → is_no_cap n ≡ false → n ≤ LAST
 is_cap n h = grind (arith, nat_tests)
 
-flag_fits : (bits : ℕ) (on : Bool) → bits < 2 ^ 8 → with_secure_flag bits KeepCaps on < 2 ^ 8
-flag_fits bits true small = or_lt 8 bits (2 ^ 4) small (omega arith)
-flag_fits bits false small = omega (arith, and_le_l bits (2 ^ 8 - 1 - 2 ^ 4), small)
+flag_fits : (bits : ℕ) (on : Bool) → bits ≤ LAST_BITS → with_secure_flag bits KeepCaps on ≤ LAST_BITS
+flag_fits bits true small = let fits = or_lt 8 bits (2 ^ flag_place KeepCaps) (omega (arith, small)) (omega arith) in omega (arith, fits)
+flag_fits bits false small = omega (arith, and_le_l bits (LAST_BITS - 2 ^ flag_place KeepCaps), small)
 
 capset_fits : (c : Credential) (perm inh eff : Caps) → FitsCred c → IsCaps perm → IsCaps inh → IsCaps eff → Holds FitsCred (after_capset c perm inh eff)
 unfolding after_capset
@@ -112,8 +112,8 @@ unfolding after_amb_lower
 amb_lower_fits c n old =
     tested (is_no_cap n) Invalid _ (adjusted c _ old refl refl refl old.perm old.inh old.eff old.bound (fewer c.amb (2 ^ n) old.amb) old.bits)
 
-few_bits : (n : ℕ) → nat_le n LAST_BITS ≡ true → n < 2 ^ 8
-few_bits n h = let le : n ≤ 255 = grind (arith, nat_tests) in omega (arith, le)
+few_bits : (n : ℕ) → nat_le n LAST_BITS ≡ true → n ≤ LAST_BITS
+few_bits n h = grind (arith, nat_tests)
 
 bits_fit : (c : Credential) (n : ℕ) → FitsCred c → Holds FitsCred (after_bits c n)
 unfolding after_bits

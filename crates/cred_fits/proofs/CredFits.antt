@@ -1,5 +1,5 @@
 -- The credentials that calls make have ids, sets and securebits in range.
-use Rattle.std.proofs.Common.{ℕ, ◌-◌, ◌<◌, ◌^◌, ◌==◌, not, ◌&&◌, ◌||◌, nat_lt, Bool, true, false, cond, List, length, Result, Ok, Err, arith}
+use Rattle.std.proofs.Common.{ℕ, ◌≤◌, ◌-◌, ◌^◌, ◌==◌, not, ◌&&◌, ◌||◌, nat_lt, Bool, true, false, cond, List, length, Result, Ok, Err, arith}
 use Rattle.std.specs.List.{All, list_any}
 use Rattle.std.proofs.lemmas.Nat.{and_le_l, and_le_r}
 use Rattle.cred_ids.specs.declared.id.Ids4.{Ids4}
@@ -16,6 +16,7 @@ use Rattle.cred_caps.specs.Caps.{Caps, IsCaps, empty, union, meet, less}
 use Rattle.cred_caps.specs.Numbers.{SETGID, SETUID}
 use Rattle.cred_caps.specs.Secure.{is_set}
 use Rattle.cred_caps.proofs.CapsLemmas.{IsCaps-union}
+use Rattle.cred_caps.specs.Secure.{LAST_BITS}
 use Rattle.cred_record.specs.Credential.{Credential, capable, is_root}
 use Rattle.cred_record.specs.declared.id_call.IdCall.{IdCall}
 use Rattle.cred_record.specs.declared.id_call.IdCall.TheVariants as call
@@ -39,7 +40,7 @@ pub record FitsCred (c : Credential) : Type 0 where
   pub eff : IsCaps c.eff
   pub bound : IsCaps c.bound
   pub amb : IsCaps c.amb
-  pub bits : c.bits < 2 ^ 8
+  pub bits : c.bits ≤ LAST_BITS
 
 pub either : {A : Type 0} (P : A → Type 0) (b : Bool) (x y : A) → P x → P y → P (cond b x y)
 either P true x y px py = px

@@ -14,7 +14,7 @@ use Rattle.cred_grammar.specs.Grammar.{script_of}
 use Rattle.cred_laws.specs.States.{state_at}
 use Rattle.cred_laws.proofs.AnsweredLaws.{so_far_is_answered}
 use Rattle.cred_laws.proofs.States.{step_at}
-use Rattle.cred_sound.proofs.Few.{few_after}
+use Rattle.cred_sound.proofs.TaskCount.{few_after}
 use Rattle.cred_sound.proofs.Sound.{sound_after}
 use Rattle.cred_reader.specs.Fits.{IsLong, Fits, FitsAnswer}
 use Rattle.cred_answers.specs.Rows.{CanAnswer}
@@ -22,7 +22,7 @@ use Rattle.cred_reader.proofs.Lists.{one_list}
 use Rattle.cred_fits.specs.Content.{FitsFile}
 use Rattle.cred_fits.specs.Fitting.{EventFits, EntriesFit, OneFittingList}
 use Rattle.cred_fits.proofs.EventsFit.{each_at, events_fit}
-use Rattle.cred_fits.proofs.InfosFit.{step_infos, opening_infos}
+use Rattle.cred_fits.proofs.InodesFit.{step_inodes, opening_inodes}
 use Rattle.cred_fits.proofs.Ranges.{FitsSealed, FitsTask, FitsBroadcast, FitsPrepared, IsInRange, Good, some_fits}
 use Rattle.cred_fits.proofs.RowLaws.{answers_are_of_their_rows}
 use Rattle.cred_fits.proofs.ScriptFits.{script_fits}
@@ -40,7 +40,7 @@ opening_range script = record {
 
 -- what stands in a state, and its files, are in range
 abbrev IsFit : State → Type 0
-IsFit s = IsInRange s × All FitsFile s.infos
+IsFit s = IsInRange s × All FitsFile s.inodes
 
 -- a script, and a journal so far of it
 record IsGiven (script : Script) (journal : List Entry) : Type 0 where
@@ -61,7 +61,7 @@ known_by script journal k given le fit = record {
   range = fit.0;
   creds = creds_few script journal k given le;
   tasks = few_after script (take k journal);
-  infos = fit.1;
+  inodes = fit.1;
 }
 
 event_at : (script : Script) (journal : List Entry) (k : ℕ) (entry : Entry) → IsGiven script journal → k < length journal → slice_get journal k ≡ Some entry
@@ -78,7 +78,7 @@ stepped script journal k entry given fit lt is =
     (known_by script journal k given (omega (arith, lt)) fit) fits.line fits.event
 
 range_at : (script : Script) (journal : List Entry) (k : ℕ) → IsGiven script journal → k ≤ length journal → IsFit (state_at script journal k)
-range_at script journal zero given le = (opening_range script, opening_infos script (script_fits given.bytes script given.read).infos)
+range_at script journal zero given le = (opening_range script, opening_inodes script (script_fits given.bytes script given.read).inodes)
 range_at script journal (suc k) given le =
     let lt : k < length journal = omega (arith, le) in
     let at = slice_get_at journal k lt in
@@ -89,7 +89,7 @@ range_at script journal (suc k) given le =
     = ap (state_at script journal) (sym next) ∙ step_at script journal k at.0 at.1 in
     subst IsFit (sym after) (
       (stepped script journal k at.0 given fit lt at.1).1,
-      step_infos script (state_at script journal k) at.0.line at.0.event entry.event fit.1,
+      step_inodes script (state_at script journal k) at.0.line at.0.event entry.event fit.1,
     )
 
 entry_at : (script : Script) (journal : List Entry) (k : ℕ) (entry : Entry) → IsGiven script journal → k < length journal → slice_get journal k ≡ Some entry

@@ -5,7 +5,7 @@ use Rattle.std.specs.List.{All}
 use Rattle.std.specs.Option.{IfSome, option_map, option_map_or, option_and_then}
 use Rattle.std.proofs.lemmas.List.Elements.{All-head, All-tail, All-weaker}
 use Rattle.std.proofs.lemmas.Option.{IfSome_then, get_or_from_slice_get}
-use Rattle.cred_ids.specs.Limits.{LINE_LIMIT}
+use Rattle.cred_ids.specs.Limits.{LINE_LIMIT, FIRST_LINE_LABEL, LABELS_A_LINE}
 use Rattle.cred_event.specs.declared.content.Content.{Content}
 use Rattle.cred_event.specs.declared.content.Content.TheVariants.{One, Id, Question, Open, Fcap, Signal, Ptrace, Change, Access, OnFile}
 use Rattle.cred_event.specs.declared.content.Stage.{Stage}
@@ -31,7 +31,7 @@ use Rattle.cred_fits.proofs.ScriptFits.{AreRead, script_fits}
 -- ---- the events of a line
 
 -- a label that a line takes for itself is of 32 bits
-own_label : (line more : ℕ) → line ≤ LINE_LIMIT → more ≤ 2 → IsNumber (100000 + more + 10 * line)
+own_label : (line more : ℕ) → line ≤ LINE_LIMIT → more ≤ 2 → IsNumber (FIRST_LINE_LABEL + more + LABELS_A_LINE * line)
 own_label line more few small = omega (arith, few, small)
 
 stage_fits : (line : ℕ) (content : Content) (at : Stage) → line ≤ LINE_LIMIT → FitsContent content → IfSome (event_in line content at) FitsEvent
@@ -75,7 +75,7 @@ stage_fits line (Access task file want) stage.Reverting few fits = fits.0
 stage_fits line (Access task file want) stage.Aborting few fits = omega (arith, few)
 stage_fits line (Access task file want) stage.Releasing few fits = omega (arith, few)
 stage_fits line (OnFile task call) stage.First few fits = (omega (arith, few), fits.0)
-stage_fits line (OnFile task call) stage.Calling few fits = calling_fits (100000 + 10 * line) call (omega (arith, few)) fits.1
+stage_fits line (OnFile task call) stage.Calling few fits = calling_fits (FIRST_LINE_LABEL + LABELS_A_LINE * line) call (omega (arith, few)) fits.1
 stage_fits line (OnFile task call) stage.Releasing few fits = omega (arith, few)
 stage_fits line content at few fits = tt
 

@@ -7,7 +7,7 @@ pub mod RecordFits
 pub mod FormFits
 pub mod ParsedSound
 pub mod Ranges
-pub mod InfosFit
+pub mod InodesFit
 pub mod RowLaws
 pub mod RuleRows
 pub mod ScriptFits

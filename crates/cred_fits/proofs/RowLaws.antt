@@ -31,7 +31,7 @@ use Rattle.cred_event.specs.declared.answer.Counted.TheVariants as counted
 use Rattle.cred_event.specs.declared.event.Change.{Change}
 use Rattle.cred_event.specs.declared.event.Change.TheVariants as change
 use Rattle.cred_event.specs.declared.event.Event.TheVariants as event
-use Rattle.cred_event.specs.declared.event.Mode.{Mode}
+use Rattle.cred_record.specs.declared.mode.PtraceMode.{PtraceMode}
 use Rattle.cred_event.specs.declared.event.Query.{Query}
 use Rattle.cred_event.specs.declared.event.Query.TheVariants as query
 use Rattle.cred_event.specs.declared.event.Side.{Side}
@@ -159,7 +159,7 @@ none_held (query.Check place asked) label = refl
 of_ask : (s : State) (label : ℕ) (q : Query) → Tells (rows.may_tell q) s (by_ask s label q)
 of_ask s label q =
     some_case (Tells (rows.may_tell q) s) (held_by s label) _ _ (none_held q label) (λ held is.
-    of_reply (info_of s.infos (query_files q)) held.cred q)
+    of_reply (info_of s.inodes (query_files q)) held.cred q)
 
 signalled : (s : State) (b : Bool) → Tells rows.signal_row s (cond b (Ok (answer.Done, s)) (Err answer.Eperm))
 signalled s true = refl
@@ -231,7 +231,7 @@ of_alter script s label to =
     let Q = Tells (rows.may_answer_change to) s in
     some_case Q (prepared_of s label) _ _ (none_prepared to label) (λ p is.
     some_case Q (numbered s.creds p.base) _ _ (none_prepared to label) (λ base is.
-    of_altered s label to _ (of_change (info_of s.infos (change_files to)) (chain_of script base.cred.ns) base.cred to)))
+    of_altered s label to _ (of_change (info_of s.inodes (change_files to)) (chain_of script base.cred.ns) base.cred to)))
 
 -- ---- a commit, an override
 
@@ -390,7 +390,7 @@ of_open s hold place asked fd =
     let Q = Tells rows.open_row s in
     some_case Q (held_by s hold) _ _ refl (λ held is.
     none_case Q (open_of s fd) _ _ refl (λ new.
-    let file = info_of s.infos (place ∷ []) in
+    let file = info_of s.inodes (place ∷ []) in
     test_case Q (is_ok (checked held.cred file asked)) _ _ (may_open held.cred file asked)
     (test_case Q (nat_lt (length s.files) OPEN_FILES) _ _ refl refl)))
 
@@ -430,7 +430,7 @@ of_exit s task =
 
 -- ---- who may look into whom
 
-of_ptrace : (script : Script) (s : State) (from hold to target : ℕ) (mode : Mode) → Tells rows.signal_row s (by_ptrace script s from hold to target mode)
+of_ptrace : (script : Script) (s : State) (from hold to target : ℕ) (mode : PtraceMode) → Tells rows.signal_row s (by_ptrace script s from hold to target mode)
 of_ptrace script s from hold to target mode =
     let Q = Tells rows.signal_row s in
     some_case Q (task_of s from) _ _ refl (λ sender is.
@@ -466,8 +466,8 @@ of_chown : (s : State) (hold place : ℕ) (owner group : Arg) → Tells (rows.ch
 of_chown s hold place owner group =
     let Q = Tells (rows.chown_row owner group) s in
     some_case Q (held_by s hold) _ _ refl (λ held is.
-    some_case Q (slice_get s.infos place) _ _ refl (λ old there.
-    let does : File → Result (Answer × State) Answer = λ new. Ok (answer.Done, record s { infos = slice_set s.infos place new }) in
+    some_case Q (slice_get s.inodes place) _ _ refl (λ old there.
+    let does : File → Result (Answer × State) Answer = λ new. Ok (answer.Done, record s { inodes = slice_set s.inodes place new }) in
     elim (may_chown held.cred old owner group) as
     (λ b. may_chown held.cred old owner group ≡ b → Q (by_rule (cond b (Ok (chowned old owner group)) (Err Perm)) >>= does)) [
       | true ↦ λ may. refl
@@ -479,8 +479,8 @@ unfolding chmod
 of_chmod s hold place mode =
     let Q = Tells rows.chmod_row s in
     some_case Q (held_by s hold) _ _ refl (λ held is.
-    some_case Q (slice_get s.infos place) _ _ refl (λ old there.
-    let does : File → Result (Answer × State) Answer = λ new. Ok (answer.Done, record s { infos = slice_set s.infos place new }) in
+    some_case Q (slice_get s.inodes place) _ _ refl (λ old there.
+    let does : File → Result (Answer × State) Answer = λ new. Ok (answer.Done, record s { inodes = slice_set s.inodes place new }) in
     elim (may_chmod held.cred old) as (λ b. Q (by_rule (cond b (Ok (record old { mode = given_mode held.cred old mode })) (Err Perm)) >>= does)) [
       | true ↦ refl
       | false ↦ refl
@@ -491,8 +491,8 @@ unfolding set_attr
 of_set_attr s hold place attr =
     let Q = Tells (rows.set_attr_row attr) s in
     some_case Q (held_by s hold) _ _ refl (λ held is.
-    some_case Q (slice_get s.infos place) _ _ refl (λ old there.
-    let does : File → Result (Answer × State) Answer = λ new. Ok (answer.Done, record s { infos = slice_set s.infos place new }) in
+    some_case Q (slice_get s.inodes place) _ _ refl (λ old there.
+    let does : File → Result (Answer × State) Answer = λ new. Ok (answer.Done, record s { inodes = slice_set s.inodes place new }) in
     elim (capable held.cred SETFCAP) as
     (λ a. Q (by_rule (cond (not a) (Err Perm) (cond (not (is_attr attr)) (Err Invalid) (Ok (record old { attr = attr })))) >>= does)) [
       | true ↦ elim (is_attr attr) as (λ b. is_attr attr ≡ b → Q (by_rule (cond (not b) (Err Invalid) (Ok (record old { attr = attr }))) >>= does)) [
@@ -506,7 +506,7 @@ of_stat : (s : State) (hold place : ℕ) → Tells rows.stat_row s (by_stat s ho
 of_stat s hold place =
     let Q = Tells rows.stat_row s in
     some_case Q (held_by s hold) _ _ refl (λ held is.
-    some_case Q (slice_get s.infos place) _ _ refl (λ file there. refl))
+    some_case Q (slice_get s.inodes place) _ _ refl (λ file there. refl))
 
 pub answers_are_of_their_rows : AnswersAreOfTheirRows
 answers_are_of_their_rows script s line (event.Init task process user group ns) = of_init s task process user group ns (root_of script ns)

@@ -18,7 +18,8 @@ use Rattle.cred_record.specs.declared.id_call.IdCall.{IdCall}
 use Rattle.cred_record.specs.declared.id_call.IdCall.TheVariants as call
 use Rattle.cred_record.specs.declared.refusal.Denial.{Denial}
 use Rattle.cred_record.specs.declared.refusal.Denial.TheVariants.{Perm, Invalid}
-use Rattle.cred_rules.specs.Adjust.{LAST_BITS, FLAGS, is_no_cap, may_capset, may_raise, keeps_lock, may_set_bits, adjust, after_capset, after_bound_drop}
+use Rattle.cred_caps.specs.Secure.{LAST_BITS}
+use Rattle.cred_rules.specs.Adjust.{FLAGS, is_no_cap, may_capset, may_raise, keeps_lock, may_set_bits, adjust, after_capset, after_bound_drop}
 use Rattle.cred_rules.specs.Adjust.{after_amb_raise, after_amb_lower, after_bits, after_keep_caps, after_no_new_privs}
 use Rattle.cred_rules.specs.SetId.{is_given, permitted, after_setuid, after_setreuid, after_setresuid, after_seteuid, after_setgroups, for_users, for_groups}
 use Rattle.cred_rules.specs.SetId.{set_id}

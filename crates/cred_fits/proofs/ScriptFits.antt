@@ -107,7 +107,7 @@ LineFits line = FitsContent line.content
 -- so many files, these namespaces and these lines
 pub record AreRead (known : List NamedFile) (declared : List Namespace) (held : List Line) : Type 0 where
   pub files : AreNamed known
-  pub infos : All (λ file. FitsFile file.info) known
+  pub inodes : All (λ file. FitsFile file.info) known
   pub lines : All (λ line. FitsContent line.content) held
   pub names : All (λ line. IsContentOf (length known) declared line.content) held
 
@@ -126,7 +126,7 @@ pushed : (files : List NamedFile) (namespaces : List Namespace) (lines : List Li
     → FitsContent content → IsContentOf (length files) namespaces content → AreRead files namespaces (lines ++ record { lane = lane; content = content } ∷ [])
 pushed files namespaces lines lane content old fits of = record {
   files = old.files;
-  infos = old.infos;
+  inodes = old.inodes;
   lines = All-push LineFits lines _ old.lines fits;
   names = All-push (NamesDeclared (length files) namespaces) lines _ old.names of;
 }
@@ -137,7 +137,7 @@ file_more files file namespaces lines old new name info =
     let count : length (files ++ file ∷ []) ≡ length files + 1 = length-append files (file ∷ []) in
     record {
       files = named_more files file old.files new name;
-      infos = All-push (λ (f : NamedFile). FitsFile f.info) files file old.infos info;
+      inodes = All-push (λ (f : NamedFile). FitsFile f.info) files file old.inodes info;
       lines = old.lines;
       names =
           rw count
@@ -149,7 +149,7 @@ namespace_more : (files : List NamedFile) (namespaces : List Namespace) (ns : Na
     → AreRead files (namespaces ++ ns ∷ []) lines
 namespace_more files namespaces ns lines old = record {
   files = old.files;
-  infos = old.infos;
+  inodes = old.inodes;
   lines = old.lines;
   names =
       All-weaker (NamesDeclared (length files) namespaces) (NamesDeclared (length files) (namespaces ++ ns ∷ [])) (with_ns (length files) namespaces ns) lines
@@ -186,7 +186,7 @@ all_added reading (text ∷ texts) old = by (add_line reading text) (added readi
 
 nothing_read : IsRead nothing
 nothing_read =
-    record { files = none_named; infos = All-nil (λ (f : NamedFile). FitsFile f.info); lines = All-nil LineFits; names = All-nil (NamesDeclared 0 []) }
+    record { files = none_named; inodes = All-nil (λ (f : NamedFile). FitsFile f.info); lines = All-nil LineFits; names = All-nil (NamesDeclared 0 []) }
 
 -- so it is of every script
 pub script_fits : (bytes : List ℕ) (script : Script) → script_of bytes ≡ Ok script → AreRead script.files script.namespaces script.lines

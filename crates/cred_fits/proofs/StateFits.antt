@@ -22,7 +22,7 @@ use Rattle.cred_event.specs.declared.answer.Answer.TheVariants as answer
 use Rattle.cred_event.specs.declared.event.Change.{Change}
 use Rattle.cred_event.specs.declared.event.Change.TheVariants as change
 use Rattle.cred_event.specs.declared.event.Event.TheVariants as event
-use Rattle.cred_event.specs.declared.event.Mode.{Mode}
+use Rattle.cred_record.specs.declared.mode.PtraceMode.{PtraceMode}
 use Rattle.cred_event.specs.declared.event.Query.{Query}
 use Rattle.cred_event.specs.declared.event.Query.TheVariants as query
 use Rattle.cred_event.specs.declared.event.Side.{Side}
@@ -47,7 +47,7 @@ use Rattle.cred_model.proofs.Lists.{All-at, All-kept, All-remove, find_each, get
 use Rattle.cred_model.proofs.Numbers.{updated_as, overriding_as, changed_as}
 use Rattle.cred_model.proofs.Rising.{All-in_order, All-passed}
 use Rattle.cred_laws.proofs.Cases.{some_case, none_case, test_case}
-use Rattle.cred_sound.specs.Ledger.{ledger}
+use Rattle.cred_sound.specs.SlotUse.{slot_use}
 use Rattle.cred_sound.specs.Sound.{IsSound}
 use Rattle.cred_sound.proofs.References.{owner_stands, base_stands}
 use Rattle.cred_sound.proofs.Tests.{in_slots}
@@ -65,7 +65,7 @@ pub record IsKnown (s : State) : Type 0 where
   pub range : IsInRange s
   pub creds : IsLong (length s.creds)
   pub tasks : length s.tasks ≤ TASKS
-  pub infos : All FitsFile s.infos
+  pub inodes : All FitsFile s.inodes
 
 -- ---- parts
 
@@ -194,7 +194,7 @@ pub of_ask : (s : State) (label : ℕ) (q : Query) → IsKnown s → IsNumber la
 of_ask s label q known l =
     some_case (Gives s) (held_by s label) _ _ (l, known.range) (λ held is.
     let found = found_by s (λ h. h.number) (hold_of s label) held known.range.creds is in
-    (of_reply (info_of s.infos (query_files q)) held.cred q found.cred, known.range))
+    (of_reply (info_of s.inodes (query_files q)) held.cred q found.cred, known.range))
 
 signalled : (s : State) (b : Bool) → IsKnown s → Gives s (cond b (Ok (answer.Done, s)) (Err answer.Eperm))
 signalled s true known = (tt, known.range)
@@ -207,7 +207,7 @@ of_signal s from hold to target known fits =
     some_case (Gives s) (held_by s hold) _ _ (fits.1, known.range) (λ own is.
     some_case (Gives s) (held_by s target) _ _ (fits.3, known.range) (λ other is. signalled s _ known))))
 
-pub of_ptrace : (script : Script) (s : State) (from hold to target : ℕ) (mode : Mode) → IsKnown s
+pub of_ptrace : (script : Script) (s : State) (from hold to target : ℕ) (mode : PtraceMode) → IsKnown s
     → FitsEvent (event.Ptrace from hold to target mode) → Gives s (by_ptrace script s from hold to target mode)
 of_ptrace script s from hold to target mode known fits =
     some_case (Gives s) (task_of s from) _ _ (fits.0, known.range) (λ sender is.
@@ -263,9 +263,9 @@ of_altered s label to (Ok made) known h = (
 of_altered s label to (Err refused) known h = (h, known.range)
 
 -- the file that an event names has ids
-named_file : (infos : List File) (places : List ℕ) → All FitsFile infos → IfSome (info_of infos places) FitsFile
-named_file infos [] all = tt
-named_file infos (place ∷ places) all = get_each FitsFile infos place all
+named_file : (inodes : List File) (places : List ℕ) → All FitsFile inodes → IfSome (info_of inodes places) FitsFile
+named_file inodes [] all = tt
+named_file inodes (place ∷ places) all = get_each FitsFile inodes place all
 
 pub of_alter : (script : Script) (s : State) (label : ℕ) (to : Change) → IsKnown s → IsNumber label → FitsChange to
     → Gives s (by_alter script s label to)
@@ -274,13 +274,13 @@ of_alter script s label to known l fits =
     some_case (Gives s) (numbered s.creds p.base) _ _ (l, known.range) (λ base is.
     let found = is_found s p.base base known.range.creds is in
     of_altered s label to _ known
-    (change_made_fits (info_of s.infos (change_files to)) (chain_of script base.cred.ns) base.cred to found.cred
-    (named_file s.infos (change_files to) known.infos) fits)))
+    (change_made_fits (info_of s.inodes (change_files to)) (chain_of script base.cred.ns) base.cred to found.cred
+    (named_file s.inodes (change_files to) known.inodes) fits)))
 
 -- ---- calls on files
 
 written : (s : State) (place : ℕ) (r : Result File Denial) → IsKnown s
-    → Gives s (by_rule r >>= λ new. Ok (answer.Done, record s { infos = slice_set s.infos place new }))
+    → Gives s (by_rule r >>= λ new. Ok (answer.Done, record s { inodes = slice_set s.inodes place new }))
 written s place (Ok new) known = (tt, known.range)
 written s place (Err Perm) known = (tt, known.range)
 written s place (Err Invalid) known = (tt, known.range)
@@ -289,14 +289,14 @@ pub of_file : (s : State) (hold place : ℕ) (rule : Credential → File → Res
     → Gives s (by_file s hold place rule)
 of_file s hold place rule known h =
     some_case (Gives s) (held_by s hold) _ _ (h, known.range) (λ held is.
-    some_case (Gives s) (slice_get s.infos place) _ _ (h, known.range) (λ old there.
+    some_case (Gives s) (slice_get s.inodes place) _ _ (h, known.range) (λ old there.
     written s place (rule held.cred old) known))
 
 pub of_stat : (s : State) (hold place : ℕ) → IsKnown s → IsNumber hold → Gives s (by_stat s hold place)
 of_stat s hold place known h =
     some_case (Gives s) (held_by s hold) _ _ (h, known.range) (λ held is.
-    some_case (Gives s) (slice_get s.infos place) _ _ (h, known.range) (λ file there.
-    let fits = All-at FitsFile s.infos place file there known.infos in
+    some_case (Gives s) (slice_get s.inodes place) _ _ (h, known.range) (λ file there.
+    let fits = All-at FitsFile s.inodes place file there known.inodes in
     ((fits.owner, fits.group, fits.mode), known.range)))
 
 -- ---- a commit
@@ -330,7 +330,7 @@ without_label s place range = record {
 -- a number that is referred to is one of those that were sealed
 sealed_below : (s : State) (n : ℕ) → IsKnown s → Contains (refs s) n → IsLong n
 sealed_below s n known has =
-    let lt = All-contains (λ m. m < length (ledger s).slots) (refs s) n known.sound.slots.sealed has in
+    let lt = All-contains (λ m. m < length (slot_use s).slots) (refs s) n known.sound.slots.sealed has in
     let creds = known.creds in
     let long = length-map s.creds (λ (x : SealedCred). x.slot) in
     omega (arith, lt, creds, long)

@@ -273,7 +273,7 @@ of_open s hold place asked fd known h f =
     let range = known.range in
     some_case (Gives s) (held_by s hold) _ _ (h, range) (λ held is.
     none_case (Gives s) (open_of s fd) _ _ (f, range) (λ new.
-    let file = info_of s.infos (place ∷ []) in
+    let file = info_of s.inodes (place ∷ []) in
     test_case (Gives s) (is_ok (checked held.cred file asked)) _ _ (of_check held.cred file asked, range)
     (test_case (Gives s) (nat_lt (length s.files) OPEN_FILES) _ _ (tt, range) (tt, range))))
 

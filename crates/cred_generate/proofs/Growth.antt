@@ -28,7 +28,7 @@ use Rattle.cred_event.specs.declared.event.Change.{Change}
 use Rattle.cred_event.specs.declared.event.Change.TheVariants as change
 use Rattle.cred_event.specs.declared.event.Event.{Event}
 use Rattle.cred_event.specs.declared.event.Event.TheVariants as event
-use Rattle.cred_event.specs.declared.event.Mode.{Mode}
+use Rattle.cred_record.specs.declared.mode.PtraceMode.{PtraceMode}
 use Rattle.cred_event.specs.declared.event.Query.{Query}
 use Rattle.cred_event.specs.declared.event.Query.TheVariants as query
 use Rattle.cred_event.specs.declared.event.Side.{Side}
@@ -181,7 +181,7 @@ of_reply file c (query.Check place asked) = of_check c file asked
 of_ask : (s : State) (label : ℕ) (q : Query) → Tells s (by_ask s label q)
 of_ask s label q =
     some_case (Tells s) (held_by s label) _ _ refl (λ held is.
-    silent (length s.creds) _ (of_reply (info_of s.infos (query_files q)) held.cred q))
+    silent (length s.creds) _ (of_reply (info_of s.inodes (query_files q)) held.cred q))
 
 signalled : (s : State) (b : Bool) → Tells s (cond b (Ok (answer.Done, s)) (Err answer.Eperm))
 signalled s true = refl
@@ -241,7 +241,7 @@ of_alter : (script : Script) (s : State) (label : ℕ) (to : Change) → Tells s
 of_alter script s label to =
     some_case (Tells s) (prepared_of s label) _ _ refl (λ p is.
     some_case (Tells s) (numbered s.creds p.base) _ _ refl (λ base is.
-    altered_counts s label to _ (change_silent (info_of s.infos (change_files to)) (chain_of script base.cred.ns) base.cred to)))
+    altered_counts s label to _ (change_silent (info_of s.inodes (change_files to)) (chain_of script base.cred.ns) base.cred to)))
 
 -- a commit's answer names the next number, whatever the change was
 committed_counts : (to : Change) (gains : Gains) (s t : State) (slot count : ℕ) (owner : Task) (flags : List ProcessFlag) (new : SealedCred)
@@ -346,7 +346,7 @@ of_open : (s : State) (hold place : ℕ) (asked : Want) (fd : ℕ) → Tells s (
 of_open s hold place asked fd =
     some_case (Tells s) (held_by s hold) _ _ refl (λ held is.
     none_case (Tells s) (open_of s fd) _ _ refl (λ new.
-    let file = info_of s.infos (place ∷ []) in
+    let file = info_of s.inodes (place ∷ []) in
     test_case (Tells s) (is_ok (checked held.cred file asked)) _ _ (silent (length s.creds) _ (of_check held.cred file asked))
     (test_case (Tells s) (nat_lt (length s.files) OPEN_FILES) _ _ refl refl)))
 
@@ -388,7 +388,7 @@ of_dumpable s task value =
 of_dumped : (s : State) (task : ℕ) → Tells s (by_dumped s task)
 of_dumped s task = some_case (Tells s) (task_of s task) _ _ refl (λ owner is. refl)
 
-of_ptrace : (script : Script) (s : State) (from hold to target : ℕ) (mode : Mode) → Tells s (by_ptrace script s from hold to target mode)
+of_ptrace : (script : Script) (s : State) (from hold to target : ℕ) (mode : PtraceMode) → Tells s (by_ptrace script s from hold to target mode)
 of_ptrace script s from hold to target mode =
     some_case (Tells s) (task_of s from) _ _ refl (λ sender is.
     some_case (Tells s) (task_of s to) _ _ refl (λ receiver is.
@@ -404,13 +404,13 @@ file_rule Q (Err denial) f none each = none denial
 of_file : (s : State) (hold place : ℕ) (rule : Credential → File → Result File Denial) → Tells s (by_file s hold place rule)
 of_file s hold place rule =
     some_case (Tells s) (held_by s hold) _ _ refl (λ held is.
-    some_case (Tells s) (slice_get s.infos place) _ _ refl (λ old there.
+    some_case (Tells s) (slice_get s.inodes place) _ _ refl (λ old there.
     file_rule (Tells s) (rule held.cred old) _ (silent_refusal s) (λ new. refl)))
 
 of_stat : (s : State) (hold place : ℕ) → Tells s (by_stat s hold place)
 of_stat s hold place =
     some_case (Tells s) (held_by s hold) _ _ refl (λ held is.
-    some_case (Tells s) (slice_get s.infos place) _ _ refl (λ file there. refl))
+    some_case (Tells s) (slice_get s.inodes place) _ _ refl (λ file there. refl))
 
 of_raw : (s : State) (task : ℕ) (call : IdCall) → Tells s (by_raw s task call)
 of_raw s task call =

@@ -6,6 +6,7 @@ use Rattle.std.proofs.lemmas.Bool.{eqb-true}
 use Rattle.std.proofs.lemmas.Bool.Decides.{nat_tests}
 use Rattle.std.proofs.lemmas.List.Elements.{All-nil, All-push, All-weaker, All-contains}
 use Rattle.std.proofs.lemmas.List.Quantifiers.{all_pairs_push}
+use Rattle.cred_ids.specs.Limits.{LINE_LIMIT}
 use Rattle.cred_event.specs.declared.content.Content.{Content}
 use Rattle.cred_model.specs.Script.{Line, Namespace, SetupBefore}
 use Rattle.cred_model.specs.FileChanges.{line_changes}
@@ -20,7 +21,7 @@ use Rattle.cred_names.proofs.OwnedNumbers.{has_all}
 
 -- a sound line more
 pub pushed : (reading : Reading) (lines : List Line) (content : Content) → lines ≡ reading.lines ++ next_line reading content ∷ []
-    → length reading.lines < 20000
+    → length reading.lines < LINE_LIMIT
     → AreLinesRead (length reading.files) reading.namespaces reading.lanes reading.lines → IsNextLine reading content
     → AreLinesRead (length reading.files) reading.namespaces reading.lanes lines
 pushed reading lines content lines_are room old next =

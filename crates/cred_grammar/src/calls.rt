@@ -15,8 +15,8 @@ use cred_event::{Change, Content, Event};
 use cred_record::AdjCall;
 use cred_script::DeclaredFiles;
 use cred_spelling::{
-    CallName, Cap, Descriptor, Number, OtherName, Process, Reason, Task, call_name, id_name,
-    no_words, one, two, word,
+    CallName, Descriptor, Number, OtherName, Reason, SpelledCap, SpelledProcess, SpelledTask,
+    call_name, id_name, no_words, one, two, word,
 };
 use std::alloc::Global;
 
@@ -105,7 +105,7 @@ fn other_of(
             Ok(Content::One(Event::CloseFile { fd }))
         }
         OtherName::Fcap => {
-            let (fd, cap) = two::<Descriptor, Cap>(words)?;
+            let (fd, cap) = two::<Descriptor, SpelledCap>(words)?;
             Ok(Content::Fcap { task, fd, cap })
         }
         OtherName::Access => {
@@ -113,15 +113,15 @@ fn other_of(
             Ok(Content::Access { task, file, want })
         }
         OtherName::Signal => {
-            let to = one::<Task>(words)?;
+            let to = one::<SpelledTask>(words)?;
             Ok(Content::Signal { task, to })
         }
         OtherName::Spawn => {
-            let child = one::<Task>(words)?;
+            let child = one::<SpelledTask>(words)?;
             Ok(Content::One(Event::Spawn { task, child }))
         }
         OtherName::Fork => {
-            let (child, process) = two::<Task, Process>(words)?;
+            let (child, process) = two::<SpelledTask, SpelledProcess>(words)?;
             Ok(Content::One(Event::Fork {
                 task,
                 child,
@@ -141,7 +141,7 @@ fn other_of(
             Ok(Content::One(Event::Dumped { task }))
         }
         OtherName::Ptrace => {
-            let (mode, to) = two::<AccessMode, Task>(words)?;
+            let (mode, to) = two::<AccessMode, SpelledTask>(words)?;
             Ok(Content::Ptrace { task, to, mode })
         }
         OtherName::CapsetRaw => capset_raw_of(alloc, task, words),

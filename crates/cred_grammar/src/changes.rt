@@ -8,7 +8,7 @@ use cred_event::Change;
 use cred_ids::Arg;
 use cred_record::AdjCall;
 use cred_script::DeclaredFiles;
-use cred_spelling::{Cap, ChangeName, Number, Reason, bare, one, three};
+use cred_spelling::{ChangeName, Number, Reason, SpelledCap, bare, one, three};
 
 /// A change, by its name, with its arguments. A file is given by its place, from 0 to 256: the
 /// number of files where none has the name.
@@ -27,9 +27,9 @@ pub fn change_of(files: &DeclaredFiles, name: ChangeName, words: &[&[u8]]) -> Re
             let (perm, inh, eff) = three::<CapSet, CapSet, CapSet>(words)?;
             Ok(Change::Adjust(AdjCall::Capset { perm, inh, eff }))
         }
-        ChangeName::BoundDrop => Ok(Change::Adjust(AdjCall::BoundDrop(one::<Cap>(words)?))),
-        ChangeName::AmbRaise => Ok(Change::Adjust(AdjCall::AmbRaise(one::<Cap>(words)?))),
-        ChangeName::AmbLower => Ok(Change::Adjust(AdjCall::AmbLower(one::<Cap>(words)?))),
+        ChangeName::BoundDrop => Ok(Change::Adjust(AdjCall::BoundDrop(one::<SpelledCap>(words)?))),
+        ChangeName::AmbRaise => Ok(Change::Adjust(AdjCall::AmbRaise(one::<SpelledCap>(words)?))),
+        ChangeName::AmbLower => Ok(Change::Adjust(AdjCall::AmbLower(one::<SpelledCap>(words)?))),
         ChangeName::AmbClear => bare(words, Change::Adjust(AdjCall::AmbClear)),
         ChangeName::Bits => Ok(Change::Adjust(AdjCall::Bits(one::<Number>(words)?))),
         ChangeName::KeepCaps => Ok(Change::Adjust(AdjCall::KeepCaps(one::<Number>(words)?))),

@@ -15,8 +15,9 @@ use cred_event::{Content, Event, Side};
 use cred_ids::Id;
 use cred_script::{DeclaredFiles, ScriptFile, event_actor};
 use cred_spelling::{
-    Descriptor, EventName, Form, Label, LaneNumber, LineNumber, Namespace, NewNamespace, Parent,
-    Process, Reason, Task, altered_name, five, id_name, no_words, one, three, two, word,
+    Descriptor, EventName, Form, LaneNumber, LineNumber, NewNamespace, Parent, Reason,
+    SpelledLabel, SpelledNamespace, SpelledProcess, SpelledTask, altered_name, five, id_name,
+    no_words, one, three, two, word,
 };
 use std::alloc::Global;
 
@@ -59,7 +60,13 @@ pub fn parse_form(
 {
     match form {
         Form::Init => {
-            let (task, process, user, group, ns) = five::<Task, Process, Id, Id, Namespace>(words)?;
+            let (task, process, user, group, ns) = five::<
+                SpelledTask,
+                SpelledProcess,
+                Id,
+                Id,
+                SpelledNamespace,
+            >(words)?;
             let content = Content::One(Event::Init {
                 task,
                 process,
@@ -117,23 +124,23 @@ pub fn event_of(
         EventName::TakeReal => take_of(Side::Objective, words),
         EventName::TakeFile => take_file_of(words),
         EventName::Release => Ok(Event::Release {
-            label: one::<Label>(words)?,
+            label: one::<SpelledLabel>(words)?,
         }),
         EventName::Ask => ask_of(files, words),
         EventName::Prepare => {
-            let (label, task, hold) = three::<Label, Task, Label>(words)?;
+            let (label, task, hold) = three::<SpelledLabel, SpelledTask, SpelledLabel>(words)?;
             Ok(Event::Prepare { label, task, hold })
         }
         EventName::Alter => alter_of(files, words),
         EventName::Commit => Ok(Event::Commit {
-            label: one::<Label>(words)?,
+            label: one::<SpelledLabel>(words)?,
         }),
         EventName::Abort => Ok(Event::Abort {
-            label: one::<Label>(words)?,
+            label: one::<SpelledLabel>(words)?,
         }),
         EventName::Override => override_of(words),
         EventName::Revert => Ok(Event::Revert {
-            task: one::<Task>(words)?,
+            task: one::<SpelledTask>(words)?,
         }),
         EventName::Begin => begin_of(alloc, words),
         EventName::Act => Ok(Event::Act {
@@ -152,7 +159,7 @@ pub fn event_of(
 fn take_of(side: Side, words: &[&[u8]]) -> Result<Event, LineRefusal>
     ensures { GivesLine (λ event. event) result (spec.take_of side (nows words.now)) }
 {
-    let (label, task) = two::<Label, Task>(words)?;
+    let (label, task) = two::<SpelledLabel, SpelledTask>(words)?;
     Ok(Event::Take { label, task, side })
 }
 
@@ -161,7 +168,7 @@ fn take_of(side: Side, words: &[&[u8]]) -> Result<Event, LineRefusal>
 fn take_file_of(words: &[&[u8]]) -> Result<Event, LineRefusal>
     ensures { GivesLine (λ event. event) result (spec.take_file_of (nows words.now)) }
 {
-    let (label, fd) = two::<Label, Descriptor>(words)?;
+    let (label, fd) = two::<SpelledLabel, Descriptor>(words)?;
     Ok(Event::TakeFile { label, fd })
 }
 
@@ -173,7 +180,7 @@ fn ask_of(files: &DeclaredFiles, words: &[&[u8]]) -> Result<Event, LineRefusal>
     match words {
         [label, name, words @ ..] => {
             let query = query_named(files, name, words)?;
-            let label = word::<Label>(label)?;
+            let label = word::<SpelledLabel>(label)?;
             Ok(Event::Ask { label, query })
         }
         _ => Err(LineRefusal::Bad(Reason::Count)),
@@ -191,7 +198,7 @@ fn alter_of(files: &DeclaredFiles, words: &[&[u8]]) -> Result<Event, LineRefusal
                 return Err(LineRefusal::Bad(Reason::Word));
             };
             let change = change_of(files, name, words)?;
-            let label = word::<Label>(label)?;
+            let label = word::<SpelledLabel>(label)?;
             Ok(Event::Alter { label, change })
         }
         _ => Err(LineRefusal::Bad(Reason::Count)),
@@ -203,7 +210,7 @@ fn alter_of(files: &DeclaredFiles, words: &[&[u8]]) -> Result<Event, LineRefusal
 fn override_of(words: &[&[u8]]) -> Result<Event, LineRefusal>
     ensures { GivesLine (λ event. event) result (spec.override_of (nows words.now)) }
 {
-    let (task, label) = two::<Task, Label>(words)?;
+    let (task, label) = two::<SpelledTask, SpelledLabel>(words)?;
     Ok(Event::Override { task, label })
 }
 
@@ -218,7 +225,7 @@ fn begin_of(alloc: Global, words: &[&[u8]]) -> Result<Event, LineRefusal>
                 return Err(LineRefusal::Bad(Reason::Word));
             };
             let call = id_call_of(alloc, name, words)?;
-            let task = word::<Task>(task)?;
+            let task = word::<SpelledTask>(task)?;
             Ok(Event::Begin { task, call })
         }
         _ => Err(LineRefusal::Bad(Reason::Count)),

@@ -6,7 +6,7 @@ use crate::named::file_at;
 use cred_event::Query;
 use cred_record::Want;
 use cred_script::DeclaredFiles;
-use cred_spelling::{Cap, QueryName, Reason, bare, one, query_name, word};
+use cred_spelling::{QueryName, Reason, SpelledCap, bare, one, query_name, word};
 
 /// `NAME WANT`: a file, by its place, and what is wanted of it.
 #[tactic(auto, unfolding(crate::specs::Questions::file_and_want))]
@@ -54,9 +54,9 @@ pub(crate) fn query_of(
         QueryName::Caps => bare(words, Query::Caps),
         QueryName::Groups => bare(words, Query::Groups),
         QueryName::Bits => bare(words, Query::Bits),
-        QueryName::Capable => Ok(Query::Capable(one::<Cap>(words)?)),
-        QueryName::Bset => Ok(Query::Bset(one::<Cap>(words)?)),
-        QueryName::AmbIs => Ok(Query::AmbIs(one::<Cap>(words)?)),
+        QueryName::Capable => Ok(Query::Capable(one::<SpelledCap>(words)?)),
+        QueryName::Bset => Ok(Query::Bset(one::<SpelledCap>(words)?)),
+        QueryName::AmbIs => Ok(Query::AmbIs(one::<SpelledCap>(words)?)),
         QueryName::Check => {
             let (file, want) = file_and_want(files, words)?;
             Ok(Query::Check { file, want })

@@ -10,4 +10,4 @@ mod words;
 
 pub use cred_words::Cells;
 pub use master::{Master, make};
-pub use tokens::{Hold, Writer, forget_put, put, read, read_caps, read_groups, read_ids};
+pub use tokens::{HoldToken, Writer, discard, put, read, read_caps, read_groups, read_ids};

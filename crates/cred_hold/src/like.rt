@@ -11,7 +11,7 @@ ghost use Rattle.cred_words.specs.Seen.{IsSealedSlot};
 ghost use Rattle.cred_words.specs.Words.{put_words, words_at};
 ghost use Rattle.cred_hold.specs.Tokens.{IsAgain};
 
-use crate::parts::known_ids;
+use crate::parts::ids_from_valid;
 use crate::tokens;
 use crate::words::{clear, gather};
 use cred_caps::CapSet;
@@ -22,23 +22,25 @@ use cred_record::layout::{
     AMBIENT, BOUNDING, EFFECTIVE, FLAGS, GROUPS, INHERITABLE, NAMESPACE, PERMITTED, ROOT, USER,
 };
 use cred_setid::IdParts;
-use cred_words::cells::{Cells, Hold, Master, Writer, load_own_word, load_word, settle_word};
+use cred_words::cells::{
+    Cells, HoldSeat, MasterSeat, WriterSeat, load_own_word, load_word, settle_word,
+};
 
 /// What an id call looks at of the slot that is held, whose words are a credential's.
 #[inline(always)]
-fn parts_in(cells: &Cells, hold: &mut Hold, slot: u32) -> IdParts
+fn parts_in(cells: &Cells, hold: &mut HoldSeat, slot: u32) -> IdParts
     requires own { hold.old.id ≡ cells.now }
     requires slot { slot ≡ hold.old.token.slot }
     requires known { are_words hold.old.token.words ≡ true }
     ensures parts { result ≡ parts_of (credential_in hold.old.token.words) }
     ensures same { hold.new ≡ hold.old }
 {
-    let (uid, gid) = known_ids(gather::<4>(cells, hold, slot, USER));
-    let perm = CapSet::known(load_word(cells, hold, slot, PERMITTED));
-    let eff = CapSet::known(load_word(cells, hold, slot, EFFECTIVE));
-    let amb = CapSet::known(load_word(cells, hold, slot, AMBIENT));
+    let (uid, gid) = ids_from_valid(gather::<4>(cells, hold, slot, USER));
+    let perm = CapSet::from_valid(load_word(cells, hold, slot, PERMITTED));
+    let eff = CapSet::from_valid(load_word(cells, hold, slot, EFFECTIVE));
+    let amb = CapSet::from_valid(load_word(cells, hold, slot, AMBIENT));
     let bits = secure_bits(load_word(cells, hold, slot, FLAGS));
-    let root = Id::known(load_word(cells, hold, slot, ROOT) as u32);
+    let root = Id::from_valid(load_word(cells, hold, slot, ROOT) as u32);
     IdParts {
         uid,
         gid,
@@ -53,7 +55,7 @@ fn parts_in(cells: &Cells, hold: &mut Hold, slot: u32) -> IdParts
 /// What an id call looks at of a sealed slot, by a hold that is lent and comes back. What else is
 /// lent stays.
 #[inline(always)]
-pub(crate) fn read_sealed_parts(master: &mut Master, cells: &Cells, slot: u32) -> IdParts
+pub(crate) fn read_sealed_parts(master: &mut MasterSeat, cells: &Cells, slot: u32) -> IdParts
     requires own { master.old.id ≡ cells.now }
     requires empty { master.old.ledger.kept ≡ None }
     requires sealed { IsSealedSlot master.old.ledger slot }
@@ -120,7 +122,7 @@ fn flags_like(flags: u64, groups: &Option<Groups>) -> u64
 #[inline(always)]
 fn head_like(
     cells: &Cells,
-    hold: &mut Hold,
+    hold: &mut HoldSeat,
     from: u32,
     parts: &IdParts,
     groups: &Option<Groups>,
@@ -157,7 +159,13 @@ fn head_like(
 
 /// The word `i` of those of groups of the credential that is held, with these groups.
 #[inline(always)]
-fn word_like(cells: &Cells, hold: &mut Hold, from: u32, groups: &Option<Groups>, i: usize) -> u64
+fn word_like(
+    cells: &Cells,
+    hold: &mut HoldSeat,
+    from: u32,
+    groups: &Option<Groups>,
+    i: usize,
+) -> u64
     requires own { hold.old.id ≡ cells.now }
     requires slot { from ≡ hold.old.token.slot }
     requires known { are_words hold.old.token.words ≡ true }
@@ -177,9 +185,9 @@ fn word_like(cells: &Cells, hold: &mut Hold, from: u32, groups: &Option<Groups>,
 #[inline(always)]
 fn scatter_like(
     cells: &Cells,
-    hold: &mut Hold,
+    hold: &mut HoldSeat,
     from: u32,
-    writer: &mut Writer,
+    writer: &mut WriterSeat,
     slot: u32,
     parts: &IdParts,
     groups: &Option<Groups>,
@@ -217,10 +225,10 @@ fn scatter_like(
 /// The same from a sealed slot, by a hold that is lent and comes back. What else is lent stays.
 #[inline(always)]
 fn scatter_from(
-    master: &mut Master,
+    master: &mut MasterSeat,
     cells: &Cells,
     from: u32,
-    writer: &mut Writer,
+    writer: &mut WriterSeat,
     slot: u32,
     parts: &IdParts,
     groups: &Option<Groups>,
@@ -249,7 +257,7 @@ fn scatter_from(
 /// groups where some are given, by a hold that is lent and comes back.
 #[inline(always)]
 pub(crate) fn put_like(
-    master: &mut Master,
+    master: &mut MasterSeat,
     cells: &Cells,
     from: u32,
     writer: &mut tokens::Writer,

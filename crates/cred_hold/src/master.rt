@@ -8,8 +8,8 @@ ghost use Rattle.cred_setid.specs.Parts.{parts_of, changed};
 ghost use Rattle.cred_hold.specs.Tokens.{loan, none_sealed, IsSealed, IsAlone};
 
 use crate::like::{put_like, read_sealed_parts};
-use crate::parts::known_ns;
-use crate::tokens::{Hold, Writer, put, put_head};
+use crate::parts::ns_from_valid;
+use crate::tokens::{HoldToken, Writer, put, put_head};
 use crate::words::{is_sealed_head, load_sealed, read_sealed};
 use cred_ids::{Groups, NoMemory};
 use cred_packed::Head;
@@ -24,7 +24,7 @@ use std::marker::Model;
 /// lent, the newest first, and for each slot the credential that is sealed there, if one is.
 #[derive(Drop)]
 pub struct Master {
-    inner: cells::Master,
+    inner: cells::MasterSeat,
 }
 
 impl Model for Master {
@@ -61,7 +61,7 @@ pub fn make(alloc: Global) -> Result<(Cells, Master), NoMemory>
 
 impl Master {
     /// Lends a hold on a sealed slot. It takes no memory.
-    pub fn lend(&mut self, cells: &Cells, label: u32, slot: u32) -> Hold
+    pub fn lend(&mut self, cells: &Cells, label: u32, slot: u32) -> HoldToken
         requires own { self.old.id ≡ cells.now }
         requires sealed { IsSealed self.old.slots slot }
         ensures hold { (result.id ≡ self.old.id) × (result.label ≡ label) × (result.slot ≡ slot) }
@@ -70,7 +70,7 @@ impl Master {
             ≡ loan label slot (Some result.cred) ∷ self.old.loans }
         ensures rest { (self.new.id ≡ self.old.id) × (self.new.slots ≡ self.old.slots) }
     {
-        Hold {
+        HoldToken {
             inner: self.inner.lend_hold(cells, label, slot),
             label,
             slot,
@@ -78,14 +78,14 @@ impl Master {
     }
 
     /// Takes a hold back, and its loan from what is lent. It takes no memory.
-    pub fn give_back(&mut self, cells: &Cells, hold: Hold)
+    pub fn give_back(&mut self, cells: &Cells, hold: HoldToken)
         requires own { (self.old.id ≡ cells.now) × (hold.id ≡ cells.now) }
         ensures taken { IsTaken self.old.loans (loan hold.label hold.slot (Some hold.cred))
             self.new.loans }
         ensures cred { slice_get self.old.slots hold.slot ≡ Some (Some hold.cred) }
         ensures rest { (self.new.id ≡ self.old.id) × (self.new.slots ≡ self.old.slots) }
     {
-        let Hold {
+        let HoldToken {
             inner,
             label: _,
             slot: _,
@@ -170,11 +170,11 @@ impl Master {
             result ≡ c.ns }
         ensures same { self.new ≡ self.old }
     {
-        known_ns(load_sealed::<1>(&mut self.inner, cells, slot, NAMESPACE))
+        ns_from_valid(load_sealed::<1>(&mut self.inner, cells, slot, NAMESPACE))
     }
 
-    /// The words of the credential of a sealed slot. `None` exactly where it has groups. It takes no
-    /// memory. What is lent stays.
+    /// The words of the credential of a sealed slot. `None` exactly where it has groups. It takes
+    /// no memory. What is lent stays.
     pub fn head(&mut self, cells: &Cells, slot: u32) -> Option<Head>
         requires own { self.old.id ≡ cells.now }
         requires sealed { IsSealed self.old.slots slot }

@@ -1,7 +1,7 @@
 //! What is lent: holds and writers.
 ghost use Rattle.std.specs.Prelude.{◌≡◌, Some, None, IfOk, [], ◌∷◌};
 
-use crate::parts::{known_caps, known_ids};
+use crate::parts::{caps_from_valid, ids_from_valid};
 use crate::words::{gather, groups_of, read_whole, scatter, scatter_head};
 use cred_caps::CapSet;
 use cred_ids::{Groups, Ids4, NoMemory};
@@ -15,13 +15,13 @@ use std::marker::Model;
 /// A sealed slot that is lent to be read. The credential stands in the shared words alone.
 /// Contracts see the identity of its cells, its label, its slot and the credential.
 #[derive(Drop)]
-pub struct Hold {
-    pub(crate) inner: cells::Hold,
+pub struct HoldToken {
+    pub(crate) inner: cells::HoldSeat,
     pub(crate) label: u32,
     pub(crate) slot: u32,
 }
 
-impl Model for Hold {
+impl Model for HoldToken {
     ghost use Rattle.std.specs.Prelude.{◌≡◌, true, false, length};
     ghost use Rattle.cred_hold.specs.Tokens.{Held};
 
@@ -44,7 +44,7 @@ impl Model for Hold {
         × (h.label ≡ h.inner.token.label) };
 }
 
-impl Hold {
+impl HoldToken {
     /// The label that it is lent under.
     pub fn label(&self) -> u32
         ensures { result ≡ self.now.label }
@@ -57,7 +57,7 @@ impl Hold {
 /// and the credential that was put last, or that none was.
 #[derive(Drop)]
 pub struct Writer {
-    pub(crate) inner: cells::Writer,
+    pub(crate) inner: cells::WriterSeat,
     pub(crate) slot: u32,
     pub(crate) put: bool,
 }
@@ -87,7 +87,7 @@ impl Model for Writer {
 /// # Errors
 ///
 /// `NoMemory` if the allocation of the groups fails. The hold stays as it was, as on success.
-pub fn read(alloc: Global, cells: &Cells, hold: &mut Hold) -> Result<Cred, NoMemory>
+pub fn read(alloc: Global, cells: &Cells, hold: &mut HoldToken) -> Result<Cred, NoMemory>
     requires { hold.old.id ≡ cells.now }
     ensures value { IfOk result (λ c. c ≡ hold.old.cred) }
     ensures same { hold.new ≡ hold.old }
@@ -98,24 +98,24 @@ pub fn read(alloc: Global, cells: &Cells, hold: &mut Hold) -> Result<Cred, NoMem
 /// The user ids and the group ids of the credential that is held. It takes no memory and waits for
 /// nobody.
 #[inline(always)]
-pub fn read_ids(cells: &Cells, hold: &mut Hold) -> (Ids4, Ids4)
+pub fn read_ids(cells: &Cells, hold: &mut HoldToken) -> (Ids4, Ids4)
     requires { hold.old.id ≡ cells.now }
     ensures value { (result.0 ≡ hold.old.cred.uid) × (result.1 ≡ hold.old.cred.gid) }
     ensures same { hold.new ≡ hold.old }
 {
-    known_ids(gather::<4>(cells, &mut hold.inner, hold.slot, USER))
+    ids_from_valid(gather::<4>(cells, &mut hold.inner, hold.slot, USER))
 }
 
 /// The permitted, inheritable, effective, bounding and ambient set of the credential that is held,
 /// in this order. It takes no memory and waits for nobody.
 #[inline(always)]
-pub fn read_caps(cells: &Cells, hold: &mut Hold) -> [CapSet; 5]
+pub fn read_caps(cells: &Cells, hold: &mut HoldToken) -> [CapSet; 5]
     requires { hold.old.id ≡ cells.now }
     ensures value { result ≡ hold.old.cred.perm ∷ hold.old.cred.inh ∷ hold.old.cred.eff
         ∷ hold.old.cred.bound ∷ hold.old.cred.amb ∷ [] }
     ensures same { hold.new ≡ hold.old }
 {
-    known_caps(gather::<5>(cells, &mut hold.inner, hold.slot, PERMITTED))
+    caps_from_valid(gather::<5>(cells, &mut hold.inner, hold.slot, PERMITTED))
 }
 
 /// The groups of the credential that is held. It waits for nobody.
@@ -124,7 +124,7 @@ pub fn read_caps(cells: &Cells, hold: &mut Hold) -> [CapSet; 5]
 ///
 /// `NoMemory` if the allocation of the groups fails. The hold stays as it was, as on success.
 #[inline(always)]
-pub fn read_groups(alloc: Global, cells: &Cells, hold: &mut Hold) -> Result<Groups, NoMemory>
+pub fn read_groups(alloc: Global, cells: &Cells, hold: &mut HoldToken) -> Result<Groups, NoMemory>
     requires { hold.old.id ≡ cells.now }
     ensures value { IfOk result (λ groups. groups ≡ hold.old.cred.groups) }
     ensures same { hold.new ≡ hold.old }
@@ -157,7 +157,7 @@ pub(crate) fn put_head(cells: &Cells, writer: &mut Writer, head: &Head)
 
 /// Forgets what was put: the slot is not sealed once the writer is taken back, as if nothing had
 /// been put. It takes no memory and waits for nobody.
-pub fn forget_put(writer: &mut Writer)
+pub fn discard(writer: &mut Writer)
     ensures { writer.new ≡ record writer.old { put = None } }
 {
     writer.put = false;

@@ -10,18 +10,20 @@ ghost use Rattle.cred_hold.specs.Tokens.{IsAgain, AreZeros};
 
 use cred_ids::{Groups, NoMemory};
 use cred_packed::{
-    Head, group_count, head, known_group, known_head, word_of_groups, words_of_groups,
+    Head, group_count, group_from_valid, head, head_from_valid, word_of_groups, words_of_groups,
 };
 use cred_record::Cred;
 use cred_record::layout::{FLAGS, GROUPS};
-use cred_words::cells::{Cells, Hold, Master, Writer, load_own_word, load_word, settle_word};
+use cred_words::cells::{
+    Cells, HoldSeat, MasterSeat, WriterSeat, load_own_word, load_word, settle_word,
+};
 use std::alloc::Global;
 
 /// `N` words of the slot that is held, from `first` on. Each is loaded at a moment of its own.
 #[inline(always)]
 pub(crate) fn gather<const N: usize>(
     cells: &Cells,
-    hold: &mut Hold,
+    hold: &mut HoldSeat,
     slot: u32,
     first: usize,
 ) -> [u64; N]
@@ -44,7 +46,7 @@ pub(crate) fn gather<const N: usize>(
 pub(crate) fn groups_of(
     alloc: Global,
     cells: &Cells,
-    hold: &mut Hold,
+    hold: &mut HoldSeat,
     slot: u32,
     count: usize,
 ) -> Result<Groups, NoMemory>
@@ -58,7 +60,7 @@ pub(crate) fn groups_of(
     let mut ids = Vec::with_capacity(alloc, count)?;
     for place in 0..count {
         let word = load_word(cells, hold, slot, GROUPS + place / 2);
-        ids.push(known_group(word, place))?;
+        ids.push(group_from_valid(word, place))?;
     }
     Ok(Groups::from_sorted(ids))
 }
@@ -68,7 +70,7 @@ pub(crate) fn groups_of(
 pub(crate) fn read_whole(
     alloc: Global,
     cells: &Cells,
-    hold: &mut Hold,
+    hold: &mut HoldSeat,
     slot: u32,
 ) -> Result<Cred, NoMemory>
     requires own { hold.old.id ≡ cells.now }
@@ -80,13 +82,13 @@ pub(crate) fn read_whole(
     let first = gather::<GROUPS>(cells, hold, slot, 0);
     let count = group_count(first[FLAGS]);
     let groups = groups_of(alloc, cells, hold, slot, count)?;
-    Ok(known_head(&first, groups))
+    Ok(head_from_valid(&first, groups))
 }
 
 /// `N` words of a sealed slot, from `first` on, by a hold that is lent and comes back. What else is
 /// lent stays.
 pub(crate) fn load_sealed<const N: usize>(
-    master: &mut Master,
+    master: &mut MasterSeat,
     cells: &Cells,
     slot: u32,
     first: usize,
@@ -111,7 +113,7 @@ pub(crate) fn load_sealed<const N: usize>(
 /// back. What else is lent stays.
 pub(crate) fn read_sealed(
     alloc: Global,
-    master: &mut Master,
+    master: &mut MasterSeat,
     cells: &Cells,
     slot: u32,
 ) -> Result<Cred, NoMemory>
@@ -133,7 +135,7 @@ pub(crate) fn read_sealed(
 
 /// Stores 0 in the words of the slot that is written, from `first` on and before `last`. From the
 /// later of the two on they are 0 already.
-pub(crate) fn clear(cells: &Cells, writer: &mut Writer, slot: u32, first: usize, last: usize)
+pub(crate) fn clear(cells: &Cells, writer: &mut WriterSeat, slot: u32, first: usize, last: usize)
     requires own { writer.old.id ≡ cells.now }
     requires slot { slot ≡ writer.old.token.slot }
     requires wide { length writer.old.token.words ≡ width }
@@ -152,7 +154,7 @@ pub(crate) fn clear(cells: &Cells, writer: &mut Writer, slot: u32, first: usize,
 
 /// Puts a credential in the slot that is written, whose words are a credential's: of the words past
 /// the new groups only those that have old ones are cleared.
-pub(crate) fn scatter(cells: &Cells, writer: &mut Writer, slot: u32, cred: &Cred)
+pub(crate) fn scatter(cells: &Cells, writer: &mut WriterSeat, slot: u32, cred: &Cred)
     requires own { writer.old.id ≡ cells.now }
     requires slot { slot ≡ writer.old.token.slot }
     requires known { are_words writer.old.token.words ≡ true }
@@ -181,7 +183,7 @@ pub(crate) fn scatter(cells: &Cells, writer: &mut Writer, slot: u32, cred: &Cred
 /// Puts the credential of a head in the slot that is written, whose words are a credential's: of
 /// the words past it only those that have old groups are cleared.
 #[inline(always)]
-pub(crate) fn scatter_head(cells: &Cells, writer: &mut Writer, slot: u32, head: &Head)
+pub(crate) fn scatter_head(cells: &Cells, writer: &mut WriterSeat, slot: u32, head: &Head)
     requires own { writer.old.id ≡ cells.now }
     requires slot { slot ≡ writer.old.token.slot }
     requires known { are_words writer.old.token.words ≡ true }
@@ -199,7 +201,7 @@ pub(crate) fn scatter_head(cells: &Cells, writer: &mut Writer, slot: u32, head: 
 /// Whether the credential that is held is the one of a head: whether it has these words, each of
 /// which is loaded at a moment of its own.
 #[inline(always)]
-pub(crate) fn is_head(cells: &Cells, hold: &mut Hold, slot: u32, head: &Head) -> bool
+pub(crate) fn is_head(cells: &Cells, hold: &mut HoldSeat, slot: u32, head: &Head) -> bool
     requires own { hold.old.id ≡ cells.now }
     requires slot { slot ≡ hold.old.token.slot }
     requires known { are_words hold.old.token.words ≡ true }
@@ -218,7 +220,7 @@ pub(crate) fn is_head(cells: &Cells, hold: &mut Hold, slot: u32, head: &Head) ->
 /// Whether the credential of a sealed slot whose words are a credential's is the one of a head, by
 /// a hold that is lent and comes back. What else is lent stays.
 #[inline(always)]
-pub(crate) fn is_sealed_head(master: &mut Master, cells: &Cells, slot: u32, head: &Head) -> bool
+pub(crate) fn is_sealed_head(master: &mut MasterSeat, cells: &Cells, slot: u32, head: &Head) -> bool
     requires own { master.old.id ≡ cells.now }
     requires empty { master.old.ledger.kept ≡ None }
     requires sealed { IsSealedSlot master.old.ledger slot }

@@ -37,7 +37,7 @@ impl Id {
 
     /// The id of a number that is known to be one, which isn't tested.
     #[inline(always)]
-    pub fn known(n: u32) -> Id
+    pub fn from_valid(n: u32) -> Id
         requires { n < Self.NONE }
         ensures { result ≡ n }
     {

@@ -6,8 +6,8 @@ use Rattle.cred_captext.specs.declared.refusal.TextRefusal.{TextRefusal}
 use Rattle.cred_captext.specs.declared.refusal.TextRefusal.TheVariants.{Bad, Mixed}
 use Rattle.cred_captext.proofs.Read.{no_text_says_two}
 use Rattle.cred_capdata.proofs.RecordLaws.{no_bytes_spell_two}
-use Rattle.cred_said.specs.declared.status.Status.{Status}
-use Rattle.cred_said.specs.declared.status.Status.TheVariants as status
+use Rattle.cred_output.specs.declared.status.Status.{Status}
+use Rattle.cred_output.specs.declared.status.Status.TheVariants as status
 use Rattle.cred_inspect.specs.Operands.{SaysEither}
 use Rattle.cred_inspect.specs.Encoding.{AreBytesOf, IsDigitsOf, IsTextFault, text_refusal}
 use Rattle.cred_inspect.specs.Records.{AreBytesAs3, IsRecordText, IsRecordFault, record_text}
@@ -17,10 +17,10 @@ use Rattle.cred_inspect.proofs.OneSpelling.{one_bytes, one_record}
 -- ---- one of two texts
 
 -- what was said, with the status that goes with it
-abbrev Said : (List ℕ → Type 0) → (List ℕ → Type 0) → Status → List ℕ → Type 0
-Said Good Other answer text = ((answer ≡ status.Done) × Good text) ⊎ ((answer ≡ status.Bad) × Other text)
+abbrev Message : (List ℕ → Type 0) → (List ℕ → Type 0) → Status → List ℕ → Type 0
+Message Good Other answer text = ((answer ≡ status.Done) × Good text) ⊎ ((answer ≡ status.Bad) × Other text)
 
-said : (Good Other : List ℕ → Type 0) (answer : Status) (text : List ℕ) → SaysEither Good Other answer text → Said Good Other answer text
+said : (Good Other : List ℕ → Type 0) (answer : Status) (text : List ℕ) → SaysEither Good Other answer text → Message Good Other answer text
 said Good Other status.Done text says = inl (refl, says)
 said Good Other status.Usage text says = absurd says
 said Good Other status.Bad text says = inr (refl, says)

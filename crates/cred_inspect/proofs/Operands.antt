@@ -3,12 +3,12 @@ use Rattle.std.proofs.Common.{◌≡◌, ℕ, ◌⊎◌, inl, inr, List, Option,
 use Rattle.std.specs.Prelude.{IfOk}
 use Rattle.std.proofs.lemmas.Result.{IfOk-weaker}
 use Rattle.cred_inspect.specs.Operands.{LeavesEither, SaysEither, SuitsOperand}
-use Rattle.cred_said.specs.Ends.{IsWhole}
-use Rattle.cred_said.specs.Telling.{TellsSaid}
-use Rattle.cred_said.specs.declared.said.Said.{Said}
-use Rattle.cred_said.specs.declared.status.Status.{Status}
-use Rattle.cred_said.specs.declared.status.Status.TheVariants as status
-use Rattle.cred_said.proofs.Telling.{SaidOne, by_ends, same_or_so, told_one}
+use Rattle.cred_output.specs.Ends.{IsWhole}
+use Rattle.cred_output.specs.Messages.{WritesMessage}
+use Rattle.cred_output.specs.declared.message.Message.{Message}
+use Rattle.cred_output.specs.declared.status.Status.{Status}
+use Rattle.cred_output.specs.declared.status.Status.TheVariants as status
+use Rattle.cred_output.proofs.Messages.{WroteOne, by_ends, same_or_so, told_one}
 
 -- whatever is said is a whole text
 pub either_whole : (Good Bad : List ℕ → Type 0) (answer : Status) (text : List ℕ) → SaysEither Good Bad answer text → IsWhole answer
@@ -22,7 +22,7 @@ either_whole Good Bad status.TooLarge text says = absurd says
 either_whole Good Bad status.NotLegal text says = absurd says
 
 -- and so of what may be said
-pub said_whole : {E : Type 0} (Good Bad : List ℕ → Type 0) (said : Result Said E) → IfOk said (λ s. SaysEither Good Bad s.status s.text.items)
+pub said_whole : {E : Type 0} (Good Bad : List ℕ → Type 0) (said : Result Message E) → IfOk said (λ s. SaysEither Good Bad s.status s.text.items)
     → IfOk said (λ s. IsWhole s.status)
 said_whole Good Bad said says = IfOk-weaker said _ _ (λ s is. either_whole Good Bad s.status s.text.items is) says
 
@@ -47,7 +47,7 @@ is_either Good Bad status.TooLarge text says = absurd says
 is_either Good Bad status.NotLegal text says = absurd says
 
 by_one : (Good Bad : List ℕ → Type 0) (answer : Status) (a b : Option (List ℕ)) (untouched : Type 0) → (untouched → b ≡ a)
-    → SaidOne (SaysEither Good Bad) answer a b untouched → LeavesEither Good Bad answer a b
+    → WroteOne (SaysEither Good Bad) answer a b untouched → LeavesEither Good Bad answer a b
 by_one Good Bad answer a b untouched same said = record {
   done = λ done.
       let all = said.whole (subst IsWhole (sym done) tt) in
@@ -60,7 +60,7 @@ by_one Good Bad answer a b untouched same said = record {
 }
 
 -- what is left of what may be said
-pub leaves_either : {E : Type 0} (Good Bad : List ℕ → Type 0) (said : Result Said E) (answer : Status) (a b : Option (List ℕ)) (untouched : Type 0)
-    → (untouched → b ≡ a) → IfOk said (λ s. SaysEither Good Bad s.status s.text.items) → TellsSaid said answer a b untouched → LeavesEither Good Bad answer a b
+pub leaves_either : {E : Type 0} (Good Bad : List ℕ → Type 0) (said : Result Message E) (answer : Status) (a b : Option (List ℕ)) (untouched : Type 0)
+    → (untouched → b ≡ a) → IfOk said (λ s. SaysEither Good Bad s.status s.text.items) → WritesMessage said answer a b untouched → LeavesEither Good Bad answer a b
 leaves_either Good Bad said answer a b untouched same says tells =
     by_one Good Bad answer a b untouched same (told_one (SaysEither Good Bad) said answer a b untouched says (said_whole Good Bad said says) tells)

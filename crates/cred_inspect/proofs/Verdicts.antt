@@ -4,13 +4,13 @@ use Rattle.std.proofs.Common.{Result}
 use Rattle.std.specs.Prelude.{IfOk, MatchOption}
 use Rattle.std.proofs.lemmas.Result.{IfOk-weaker}
 use Rattle.cred_inspect.specs.Auditing.{AuditSuits, IsAuditWithin, Judges, SaysVerdict, no_report_text}
-use Rattle.cred_said.specs.Ends.{IsWhole}
+use Rattle.cred_output.specs.Ends.{IsWhole}
 use Rattle.cred_inspect.specs.Parts.{input_parts}
-use Rattle.cred_said.specs.declared.status.Status.{Status}
-use Rattle.cred_said.specs.declared.status.Status.TheVariants as status
-use Rattle.cred_said.specs.Telling.{TellsSaid}
-use Rattle.cred_said.specs.declared.said.Said.{Said}
-use Rattle.cred_said.proofs.Telling.{SaidOne, by_ends, told_one}
+use Rattle.cred_output.specs.declared.status.Status.{Status}
+use Rattle.cred_output.specs.declared.status.Status.TheVariants as status
+use Rattle.cred_output.specs.Messages.{WritesMessage}
+use Rattle.cred_output.specs.declared.message.Message.{Message}
+use Rattle.cred_output.proofs.Messages.{WroteOne, by_ends, told_one}
 
 judges_whole : (bytes report : List ℕ) (answer : Status) (text : List ℕ) → Judges bytes report answer text → IsWhole answer
 judges_whole bytes report status.Done text judged = tt
@@ -42,12 +42,12 @@ says_suits input status.Memory text within says = tt
 says_suits input status.TooLarge text within says = absurd (says_whole input status.TooLarge text says)
 says_suits input status.NotLegal text within says = (within, (text, says))
 
-pub said_verdict : {E : Type 0} (input : List ℕ) (said : Result Said E) (answer : Status) (a b : Option (List ℕ)) (untouched : Type 0)
-    → IfOk said (λ s. SaysVerdict input s.status s.text.items) → TellsSaid said answer a b untouched → SaidOne (SaysVerdict input) answer a b untouched
+pub said_verdict : {E : Type 0} (input : List ℕ) (said : Result Message E) (answer : Status) (a b : Option (List ℕ)) (untouched : Type 0)
+    → IfOk said (λ s. SaysVerdict input s.status s.text.items) → WritesMessage said answer a b untouched → WroteOne (SaysVerdict input) answer a b untouched
 said_verdict input said answer a b untouched says tells =
     told_one (SaysVerdict input) said answer a b untouched says (IfOk-weaker said _ _ (λ s is. says_whole input s.status s.text.items is) says) tells
 
 pub said_suits : (input : List ℕ) (answer : Status) (a b : Option (List ℕ)) (untouched : Type 0) → IsAuditWithin input
-    → SaidOne (SaysVerdict input) answer a b untouched → AuditSuits input answer
+    → WroteOne (SaysVerdict input) answer a b untouched → AuditSuits input answer
 said_suits input answer a b untouched within said =
     by_ends (AuditSuits input) answer said.ends (λ one. says_suits input answer one.0 within one.1) within tt

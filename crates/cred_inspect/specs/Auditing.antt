@@ -11,12 +11,12 @@ use Rattle.cred_spelling.specs.Lines.{lines_of}
 use Rattle.cred_grammar.specs.Grammar.{script_of}
 use Rattle.cred_fits.specs.Fitting.{IsOneList}
 use Rattle.cred_audit.specs.Report.{IsReport, IsFault}
-use Rattle.cred_said.specs.declared.status.Status.{Status}
-use Rattle.cred_said.specs.declared.status.Status.TheVariants as status
-use Rattle.cred_said.specs.Ends.{IsTooLarge, IsWhole, IsWithinLimits, Reads, ReadsTooMuch}
-use Rattle.cred_said.specs.Ends.{ReadsWithin}
+use Rattle.cred_output.specs.declared.status.Status.{Status}
+use Rattle.cred_output.specs.declared.status.Status.TheVariants as status
+use Rattle.cred_output.specs.Ends.{IsTooLarge, IsWhole, IsWithinLimits, Reads, ReadsTooMuch}
+use Rattle.cred_output.specs.Ends.{ReadsWithin}
 use Rattle.cred_inspect.specs.Parts.{input_parts, script_part}
-use Rattle.cred_said.specs.Texts.{bad_text}
+use Rattle.cred_output.specs.Texts.{bad_text}
 
 -- An input that has no more bytes than it may have, and of which what is to be a script has no more
 -- bytes and no more lines than a script may have.

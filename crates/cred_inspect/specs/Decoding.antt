@@ -2,8 +2,8 @@
 use Rattle.std.specs.Prelude.{◌≡◌, ℕ, List}
 use Rattle.std.specs.declared.option.Option.{Option}
 use Rattle.cred_rules.specs.Attribute.{Attribute, Spells, fault}
-use Rattle.cred_said.specs.declared.status.Status.{Status}
-use Rattle.cred_said.specs.Texts.{attr_text, fault_text}
+use Rattle.cred_output.specs.declared.status.Status.{Status}
+use Rattle.cred_output.specs.Texts.{attr_text, fault_text}
 use Rattle.cred_inspect.specs.Operands.{LeavesEither, SaysEither}
 
 -- the bytes spell an attribute

@@ -6,7 +6,7 @@ use Rattle.cred_rules.specs.Attribute.{Attribute, Spells, IsCanonical}
 use Rattle.cred_captext.specs.Reading.{TextSays, IsRefused}
 use Rattle.cred_captext.specs.declared.refusal.TextRefusal.{TextRefusal}
 use Rattle.cred_captext.specs.declared.refusal.TextRefusal.TheVariants.{Bad, Mixed}
-use Rattle.cred_said.specs.declared.status.Status.{Status}
+use Rattle.cred_output.specs.declared.status.Status.{Status}
 use Rattle.cred_inspect.specs.Operands.{LeavesEither, SaysEither}
 
 -- the text says something of a file

@@ -1,6 +1,6 @@
 -- Laws of what `encode` and `capdata` say of a word: it is one text.
 use Rattle.std.specs.Prelude.{◌≡◌, ℕ, List}
-use Rattle.cred_said.specs.declared.status.Status.{Status}
+use Rattle.cred_output.specs.declared.status.Status.{Status}
 use Rattle.cred_inspect.specs.Encoding.{SaysText}
 use Rattle.cred_inspect.specs.Records.{SaysRecord}
 

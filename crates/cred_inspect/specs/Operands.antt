@@ -4,8 +4,8 @@ use Rattle.std.specs.Prelude.{◌≡◌, ◌⊎◌, ℕ, List, ⊤}
 use Rattle.std.specs.declared.option.Option.{Option}
 use Rattle.std.specs.Io.KnownBytes.{Appends}
 use Rattle.cred_io.specs.Ends.{AppendsPrefix}
-use Rattle.cred_said.specs.declared.status.Status.{Status}
-use Rattle.cred_said.specs.declared.status.Status.TheVariants as status
+use Rattle.cred_output.specs.declared.status.Status.{Status}
+use Rattle.cred_output.specs.declared.status.Status.TheVariants as status
 
 -- What is said of the word, with this status: Done with a text of the first kind, Bad with one of
 -- the second.

@@ -7,7 +7,7 @@ use Rattle.cred_capdata.specs.Record.{SpellsData, IsCanonicalData, data_refusal_
 use Rattle.cred_capdata.specs.declared.data.CapData.{CapData}
 use Rattle.cred_capdata.specs.declared.refusal.DataRefusal.{DataRefusal}
 use Rattle.cred_capdata.specs.declared.refusal.DataRefusal.TheVariants.{BadLength, BadVersion}
-use Rattle.cred_said.specs.declared.status.Status.{Status}
+use Rattle.cred_output.specs.declared.status.Status.{Status}
 use Rattle.cred_inspect.specs.Operands.{LeavesEither, SaysEither}
 
 -- the bytes spell a record

@@ -6,8 +6,8 @@ ghost use Rattle.cred_ids.specs.Limits.{LINE_LIMIT, AUDIT_LIMIT};
 ghost use Rattle.cred_spelling.specs.Lines.{lines_of};
 ghost use Rattle.cred_inspect.specs.Auditing.{AuditSuits, IsAuditWithin, Judges, LeavesVerdict};
 ghost use Rattle.cred_inspect.specs.Auditing.{SaysVerdict, Writes, WritesPrefix, no_report_text};
-ghost use Rattle.cred_said.specs.Ends.{IsTooLarge, IsWhole, IsWithinLimits};
-ghost use Rattle.cred_said.specs.Leaves.{IsReading, IsWriting};
+ghost use Rattle.cred_output.specs.Ends.{IsTooLarge, IsWhole, IsWithinLimits};
+ghost use Rattle.cred_output.specs.Leaves.{IsReading, IsWriting};
 ghost use Rattle.cred_inspect.specs.Parts as spec;
 ghost use Rattle.cred_inspect.specs.Parts.{script_part};
 
@@ -16,7 +16,7 @@ use cred_audit::{Verdict, audit};
 use cred_grammar::{line_count, read};
 use cred_ids::{NoMemory, limits};
 use cred_io::{Sink, Source, read_all};
-use cred_said::{Said, Status, bad_line, tell_said};
+use cred_output::{Message, Status, bad_line, write_message};
 use std::alloc::Global;
 use std::mem::forget;
 
@@ -26,7 +26,7 @@ pub fn read_and_audit<S: Source, K: Sink>(alloc: Global, source: &mut S, sink: &
         (K.written sink.old) (K.written sink.new) }
     ensures reading { IsReading AUDIT_LIMIT result (S.left source.old) (S.left source.new)
         (S.faults source.old) (S.faults source.new) }
-    ensures writing { IsWriting result (K.handed_on sink.new)
+    ensures writing { IsWriting result (K.flushed sink.new)
         (K.faults sink.old) (K.faults sink.new) }
     ensures silent { (result ≡ Status.ReadFault) ⊎ (result ≡ Status.TooLarge)
         → sink.new ≡ sink.old }
@@ -47,7 +47,7 @@ fn run_audit<K: Sink>(alloc: Global, input: &[u8], sink: &mut K) -> Status
         → IsTooLarge (script_part input.now) × (sink.new ≡ sink.old) }
     ensures no_read_fault { result ≢ Status.ReadFault }
     ensures suits { AuditSuits input.now result }
-    ensures writing { IsWriting result (K.handed_on sink.new)
+    ensures writing { IsWriting result (K.flushed sink.new)
         (K.faults sink.old) (K.faults sink.new) }
     ensures prefix { (sink.new ≡ sink.old) ⊎ (IsAuditWithin input.now
         × WritesPrefix (K.written sink.old) (K.written sink.new) input.now) }
@@ -56,7 +56,7 @@ fn run_audit<K: Sink>(alloc: Global, input: &[u8], sink: &mut K) -> Status
     if is_too_large(script_part(input, parts)) {
         return Status::TooLarge;
     }
-    tell_said(sink, say(alloc, input, parts))
+    write_message(sink, message_of(alloc, input, parts))
 }
 
 /// The part that is read as a script: where no line is `report`, the whole input.
@@ -78,15 +78,19 @@ fn is_too_large(script: &[u8]) -> bool
 }
 
 /// The text for an input within the limits, with its status.
-fn say(alloc: Global, input: &[u8], parts: Option<(&[u8], &[u8])>) -> Result<Said, NoMemory>
+fn message_of(
+    alloc: Global,
+    input: &[u8],
+    parts: Option<(&[u8], &[u8])>,
+) -> Result<Message, NoMemory>
     requires parts { option_map (λ parts. (parts.0.now, parts.1.now)) parts
         ≡ spec.input_parts input.now }
     requires within { IsWithinLimits (spec.script_part input.now) }
-    ensures { IfOk result (λ said. SaysVerdict input.now said.status said.text.items) }
+    ensures { IfOk result (λ message. SaysVerdict input.now message.status message.text.items) }
 {
     match parts {
         Some((script, report)) => judge(alloc, script, report),
-        None => Ok(Said::of(Status::Bad, no_report(alloc, input)?)),
+        None => Ok(Message::of(Status::Bad, no_report(alloc, input)?)),
     }
 }
 
@@ -100,10 +104,10 @@ fn no_report(alloc: Global, input: &[u8]) -> Result<String, NoMemory>
 }
 
 /// The text for a script and what follows the line `report`, with its status.
-fn judge(alloc: Global, script: &[u8], report: &[u8]) -> Result<Said, NoMemory>
+fn judge(alloc: Global, script: &[u8], report: &[u8]) -> Result<Message, NoMemory>
     requires { length (lines_of script.now) ≤ LINE_LIMIT }
-    ensures { IfOk result (λ said. Judges script.now report.now said.status
-        said.text.items) }
+    ensures { IfOk result (λ message. Judges script.now report.now message.status
+        message.text.items) }
 {
     match read(alloc, script) {
         Ok(script) => {
@@ -111,8 +115,11 @@ fn judge(alloc: Global, script: &[u8], report: &[u8]) -> Result<Said, NoMemory>
             // The program ends next, and its memory with it: so no line is freed.
             forget(script);
             match verdict? {
-                Verdict::Legal => Ok(Said::of(Status::Done, String::from_str(alloc, "legal\n")?)),
-                Verdict::NotLegal { entry } => Ok(Said::of(
+                Verdict::Legal => Ok(Message::of(
+                    Status::Done,
+                    String::from_str(alloc, "legal\n")?,
+                )),
+                Verdict::NotLegal { entry } => Ok(Message::of(
                     Status::NotLegal,
                     format!(in alloc; "not legal {entry}\n")?,
                 )),

@@ -2,36 +2,36 @@
 ghost use Rattle.std.specs.Prelude.{◌≡◌, ◌++◌, IfOk, OnOk, codes, string_bytes};
 ghost use Rattle.cred_report.specs.Numbers.{set_text};
 ghost use Rattle.cred_inspect.specs.Decoding.{LeavesAttribute, SaysBytes};
-ghost use Rattle.cred_said.specs.Leaves.{IsWriting};
-ghost use Rattle.cred_said.specs.Texts as spec;
-ghost use Rattle.cred_said.specs.Texts.{attr_text};
+ghost use Rattle.cred_output.specs.Leaves.{IsWriting};
+ghost use Rattle.cred_output.specs.Texts as spec;
+ghost use Rattle.cred_output.specs.Texts.{attr_text};
 
 use cred_filecap::{AttrRefusal, FileCaps, decode};
 use cred_ids::NoMemory;
 use cred_io::Sink;
+use cred_output::{Message, Status, write_message};
 use cred_report::{append_flag, append_number, append_set, append_word};
-use cred_said::{Said, Status, tell_said};
 use std::alloc::Global;
 
 /// Writes what the bytes of an attribute say, or why they are no attribute.
 pub fn run_decode<K: Sink>(alloc: Global, bytes: &[u8], sink: &mut K) -> Status
     ensures attribute { LeavesAttribute bytes.now result (K.written sink.old) (K.written sink.new) }
-    ensures writing { IsWriting result (K.handed_on sink.new)
+    ensures writing { IsWriting result (K.flushed sink.new)
         (K.faults sink.old) (K.faults sink.new) }
 {
-    tell_said(sink, say(alloc, bytes))
+    write_message(sink, message_of(alloc, bytes))
 }
 
 /// The text for the bytes, with its status.
-fn say(alloc: Global, bytes: &[u8]) -> Result<Said, NoMemory>
-    ensures { IfOk result (λ said. SaysBytes bytes.now said.status said.text.items) }
+fn message_of(alloc: Global, bytes: &[u8]) -> Result<Message, NoMemory>
+    ensures { IfOk result (λ message. SaysBytes bytes.now message.status message.text.items) }
 {
     match decode(bytes) {
-        Ok(caps) => Ok(Said {
+        Ok(caps) => Ok(Message {
             status: Status::Done,
             text: text_of(alloc, caps)?,
         }),
-        Err(refusal) => Ok(Said::of(Status::Bad, refusal_text(alloc, refusal)?)),
+        Err(refusal) => Ok(Message::of(Status::Bad, refusal_text(alloc, refusal)?)),
     }
 }
 

@@ -2,36 +2,36 @@
 ghost use Rattle.std.specs.Prelude.{◌≡◌, IfOk, string_bytes};
 ghost use Rattle.cred_inspect.specs.Encoding.{IsLineOf, LeavesText, SaysText};
 ghost use Rattle.cred_inspect.specs.Encoding.{text_refusal};
-ghost use Rattle.cred_said.specs.Leaves.{IsWriting};
+ghost use Rattle.cred_output.specs.Leaves.{IsWriting};
 
 use crate::digits::append_hex;
 use cred_captext::{TextRefusal, read_text};
 use cred_filecap::{FileCaps, encode};
 use cred_ids::NoMemory;
 use cred_io::Sink;
+use cred_output::{Message, Status, write_message};
 use cred_report::append_word;
-use cred_said::{Said, Status, tell_said};
 use std::alloc::Global;
 
 /// Writes the bytes of the attribute that a text describes, or why it describes none.
 pub fn run_encode<K: Sink>(alloc: Global, text: &[u8], sink: &mut K) -> Status
     ensures line { LeavesText text.now result (K.written sink.old) (K.written sink.new) }
-    ensures writing { IsWriting result (K.handed_on sink.new)
+    ensures writing { IsWriting result (K.flushed sink.new)
         (K.faults sink.old) (K.faults sink.new) }
 {
-    tell_said(sink, say(alloc, text))
+    write_message(sink, message_of(alloc, text))
 }
 
 /// The line for the text, with its status.
-fn say(alloc: Global, text: &[u8]) -> Result<Said, NoMemory>
-    ensures { IfOk result (λ said. SaysText text.now said.status said.text.items) }
+fn message_of(alloc: Global, text: &[u8]) -> Result<Message, NoMemory>
+    ensures { IfOk result (λ message. SaysText text.now message.status message.text.items) }
 {
     match read_text(text) {
-        Ok(caps) => Ok(Said {
+        Ok(caps) => Ok(Message {
             status: Status::Done,
             text: line_of(alloc, &caps)?,
         }),
-        Err(refusal) => Ok(Said::of(Status::Bad, refusal_text(alloc, refusal)?)),
+        Err(refusal) => Ok(Message::of(Status::Bad, refusal_text(alloc, refusal)?)),
     }
 }
 

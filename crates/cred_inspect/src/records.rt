@@ -3,14 +3,14 @@ ghost use Rattle.std.specs.Prelude.{◌≡◌, ◌++◌, IfOk, OnOk, codes, stri
 ghost use Rattle.cred_report.specs.Numbers.{set_text};
 ghost use Rattle.cred_inspect.specs.Records.{IsTextOf, LeavesRecord, SaysRecord};
 ghost use Rattle.cred_inspect.specs.Records.{record_refusal};
-ghost use Rattle.cred_said.specs.Leaves.{IsWriting};
+ghost use Rattle.cred_output.specs.Leaves.{IsWriting};
 
 use crate::digits::append_hex;
 use cred_capdata::{CapData, DataRefusal, read_data, write_data};
 use cred_ids::NoMemory;
 use cred_io::Sink;
+use cred_output::{Message, Status, write_message};
 use cred_report::{append_number, append_set, append_word};
-use cred_said::{Said, Status, tell_said};
 use std::alloc::Global;
 
 /// The version of the record that is written beside what a record says.
@@ -20,22 +20,22 @@ const VERSION: u8 = 3;
 /// no record.
 pub fn run_capdata<K: Sink>(alloc: Global, bytes: &[u8], sink: &mut K) -> Status
     ensures record { LeavesRecord bytes.now result (K.written sink.old) (K.written sink.new) }
-    ensures writing { IsWriting result (K.handed_on sink.new)
+    ensures writing { IsWriting result (K.flushed sink.new)
         (K.faults sink.old) (K.faults sink.new) }
 {
-    tell_said(sink, say(alloc, bytes))
+    write_message(sink, message_of(alloc, bytes))
 }
 
 /// The text for the bytes, with its status.
-fn say(alloc: Global, bytes: &[u8]) -> Result<Said, NoMemory>
-    ensures { IfOk result (λ said. SaysRecord bytes.now said.status said.text.items) }
+fn message_of(alloc: Global, bytes: &[u8]) -> Result<Message, NoMemory>
+    ensures { IfOk result (λ message. SaysRecord bytes.now message.status message.text.items) }
 {
     match read_data(bytes) {
-        Ok(caps) => Ok(Said {
+        Ok(caps) => Ok(Message {
             status: Status::Done,
             text: text_of(alloc, caps)?,
         }),
-        Err(refusal) => Ok(Said::of(Status::Bad, refusal_text(alloc, refusal)?)),
+        Err(refusal) => Ok(Message::of(Status::Bad, refusal_text(alloc, refusal)?)),
     }
 }
 

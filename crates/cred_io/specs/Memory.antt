@@ -11,20 +11,20 @@ pub record SourceState : Type 0 where
   pub failing : List ℕ
   pub faults : ℕ
 
--- the bytes written, whether they are handed on, how many a write takes at most, how many writes
+-- the bytes written, whether they are flushed, how many a write takes at most, how many writes
 -- there were, which writes fail, and how many have failed
 pub record SinkState : Type 0 where
   pub bytes : List ℕ
-  pub handed_on : Bool
+  pub flushed : Bool
   pub piece : ℕ
   pub calls : ℕ
   pub failing : List ℕ
   pub faults : ℕ
 
--- the bytes written, and whether they are handed on
+-- the bytes written, and whether they are flushed
 pub record SureState : Type 0 where
   pub bytes : List ℕ
-  pub handed_on : Bool
+  pub flushed : Bool
 
 -- the piece of an end that moves as much at a call as it is asked to
 abbrev pub WHOLE : ℕ

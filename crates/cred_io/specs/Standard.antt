@@ -20,8 +20,8 @@ abbrev pub std_writer : {W : Type 0} → StdSink W → W
 std_writer s = s.writer
 
 -- the writer was flushed, and nothing was written since
-abbrev pub std_sink_handed_on : {W : Type 0} → StdSink W → Bool
-std_sink_handed_on s = s.handed_on
+abbrev pub std_sink_flushed : {W : Type 0} → StdSink W → Bool
+std_sink_flushed s = s.flushed
 
 -- how many writes and flushes have failed
 abbrev pub std_sink_faults : {W : Type 0} → StdSink W → ℕ

@@ -15,7 +15,7 @@ use std::marker::Model;
 #[derive(Drop, Debug)]
 pub struct MemorySink {
     bytes: Vec<u8>,
-    handed_on: bool,
+    flushed: bool,
     piece: usize,
     calls: u64,
     failing: Vec<u64>,
@@ -30,7 +30,7 @@ impl Model for MemorySink {
 
     ghost view = { λ s. record {
       bytes = s.bytes.items;
-      handed_on = s.handed_on;
+      flushed = s.flushed;
       piece = s.piece;
       calls = s.calls;
       failing = s.failing.items;
@@ -50,7 +50,7 @@ impl MemorySink {
     pub fn of(alloc: Global, failing: &[u64]) -> Result<Self, NoMemory>
         ensures { IfOk result (λ s. s ≡ record {
           bytes = [];
-          handed_on = true;
+          flushed = true;
           piece = WHOLE;
           calls = 0;
           failing = failing.now;
@@ -59,7 +59,7 @@ impl MemorySink {
     {
         Ok(MemorySink {
             bytes: Vec::new(alloc),
-            handed_on: true,
+            flushed: true,
             piece: usize::MAX,
             calls: 0,
             failing: failing.to_vec(alloc)?,
@@ -89,7 +89,7 @@ impl MemorySink {
 impl Sink for MemorySink {
     ghost written = { λ s. Some s.bytes };
 
-    ghost handed_on = { λ s. s.handed_on };
+    ghost flushed = { λ s. s.flushed };
 
     ghost faults = { λ s. s.faults };
 
@@ -100,7 +100,7 @@ impl Sink for MemorySink {
         ensures bound { WritesAtMost result piece.now }
         ensures some { IfOk result (λ n. 0 < length piece.now → 0 < n) }
         ensures bytes { WriteAppends (Some self.old.bytes) (Some self.new.bytes) result piece.now }
-        ensures kept_back { OnOk result (self.new.handed_on ≡ false) }
+        ensures kept_back { OnOk result (self.new.flushed ≡ false) }
         ensures cause { CountsFaults (result ≡ Err SinkRefusal.Failed)
             self.old.faults self.new.faults }
         ensures fails { (result ≡ Err SinkRefusal.Failed)
@@ -108,7 +108,7 @@ impl Sink for MemorySink {
         ensures count { IfOk result (λ n. n ≡ min self.old.piece (length piece.now)) }
         ensures ok { IfOk result (λ n. self.new ≡ record self.old {
           bytes = self.old.bytes ++ take n piece.now;
-          handed_on = false;
+          flushed = false;
           calls = next_count self.old.calls;
         }) }
         ensures failed { result ≡ Err SinkRefusal.Failed → self.new ≡ record self.old {
@@ -126,7 +126,7 @@ impl Sink for MemorySink {
         }
         let count = piece.len().min(self.piece);
         self.bytes.extend_from_slice(&piece[..count])?;
-        self.handed_on = false;
+        self.flushed = false;
         Ok(count)
     }
 
@@ -137,13 +137,13 @@ impl Sink for MemorySink {
     /// Nothing is kept back, so this only notes that it is done. It is not counted as a call.
     fn flush(&mut self) -> Result<(), SinkRefusal>
         ensures bytes { Keeps (Some self.old.bytes) (Some self.new.bytes) }
-        ensures handed_on { OnOk result (self.new.handed_on ≡ true) }
+        ensures flushed { OnOk result (self.new.flushed ≡ true) }
         ensures cause { CountsFaults (result ≡ Err SinkRefusal.Failed)
             self.old.faults self.new.faults }
         ensures sure { IsOk result }
-        ensures new { self.new ≡ record self.old { handed_on = true } }
+        ensures new { self.new ≡ record self.old { flushed = true } }
     {
-        self.handed_on = true;
+        self.flushed = true;
         Ok(())
     }
 }

@@ -18,8 +18,8 @@ pub trait Sink {
     /// The bytes that were written, where the sink reports them.
     ghost written: { Self → Option (List ℕ) };
 
-    /// All that was written is handed on: the sink was flushed, and nothing was written since.
-    ghost handed_on: { Self → Bool };
+    /// All that was written is flushed: the sink was, and nothing was written since.
+    ghost flushed: { Self → Bool };
 
     /// How many calls have failed, at most the greatest `u64`. It never falls.
     ghost faults: { Self → ℕ };
@@ -34,7 +34,7 @@ pub trait Sink {
         ensures bound { WritesAtMost result piece.now }
         ensures some { IfOk result (λ n. 0 < length piece.now → 0 < n) }
         ensures bytes { WriteAppends (written self.old) (written self.new) result piece.now }
-        ensures kept_back { OnOk result (handed_on self.new ≡ false) }
+        ensures kept_back { OnOk result (flushed self.new ≡ false) }
         ensures cause { CountsFaults (result ≡ Err Failed) (faults self.old) (faults self.new) };
 
     /// How many pieces of a text go into one write, at least one. It is 1 for a sink whose writes
@@ -50,7 +50,7 @@ pub trait Sink {
     /// written stays. The count of faults rises for `Failed`, and for nothing else.
     fn flush(&mut self) -> Result<(), SinkRefusal>
         ensures bytes { Keeps (written self.old) (written self.new) }
-        ensures handed_on { OnOk result (handed_on self.new ≡ true) }
+        ensures flushed { OnOk result (flushed self.new ≡ true) }
         ensures cause { CountsFaults (result ≡ Err Failed) (faults self.old) (faults self.new) };
 }
 

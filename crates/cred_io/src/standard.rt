@@ -6,7 +6,7 @@ ghost use Rattle.std.specs.Io.{ReadsAtMost, WritesAtMost};
 ghost use Rattle.std.specs.Io.KnownBytes.{ReadConsumes, WriteAppends, Keeps};
 ghost use Rattle.cred_io.specs.Causes.{CountsFaults, next_count};
 ghost use Rattle.cred_io.specs.Standard.{std_reader, std_source_faults, std_writer};
-ghost use Rattle.cred_io.specs.Standard.{MOST_GATHERED, std_sink_handed_on, std_sink_faults};
+ghost use Rattle.cred_io.specs.Standard.{MOST_GATHERED, std_sink_flushed, std_sink_faults};
 
 use crate::{Failed, Sink, SinkRefusal, Source};
 use std::io::{Read, Write};
@@ -60,7 +60,7 @@ const GATHERED: usize = 1_024;
 #[derive(Drop)]
 pub struct StdSink<W: Write> {
     writer: W,
-    handed_on: bool,
+    flushed: bool,
     faults: u64,
 }
 
@@ -69,12 +69,12 @@ impl<W: Write> StdSink<W> {
     /// kept back.
     pub fn new(writer: W) -> Self
         ensures writer { std_writer result ≡ writer }
-        ensures kept_back { std_sink_handed_on result ≡ false }
+        ensures kept_back { std_sink_flushed result ≡ false }
         ensures fresh { std_sink_faults result ≡ 0 }
     {
         StdSink {
             writer,
-            handed_on: false,
+            flushed: false,
             faults: 0,
         }
     }
@@ -82,7 +82,7 @@ impl<W: Write> StdSink<W> {
     /// Counts a call that failed.
     fn count_fault(&mut self)
         ensures writer { std_writer self.new ≡ std_writer self.old }
-        ensures handed_on { std_sink_handed_on self.new ≡ std_sink_handed_on self.old }
+        ensures flushed { std_sink_flushed self.new ≡ std_sink_flushed self.old }
         ensures count { std_sink_faults self.new ≡ next_count (std_sink_faults self.old) }
         ensures later { std_sink_faults self.old ≤ std_sink_faults self.new }
     {
@@ -93,7 +93,7 @@ impl<W: Write> StdSink<W> {
 impl<W: Write> Sink for StdSink<W> {
     ghost written = { λ s. W.contents (std_writer s) };
 
-    ghost handed_on = { std_sink_handed_on };
+    ghost flushed = { std_sink_flushed };
 
     ghost faults = { std_sink_faults };
 
@@ -104,14 +104,14 @@ impl<W: Write> Sink for StdSink<W> {
         ensures some { IfOk result (λ n. 0 < length piece.now → 0 < n) }
         ensures bytes { WriteAppends (W.contents (std_writer self.old))
             (W.contents (std_writer self.new)) result piece.now }
-        ensures kept_back { std_sink_handed_on self.new ≡ false }
+        ensures kept_back { std_sink_flushed self.new ≡ false }
         ensures cause { CountsFaults (result ≡ Err SinkRefusal.Failed)
             (std_sink_faults self.old) (std_sink_faults self.new) }
         ensures err { OnErr result
             (std_sink_faults self.new ≡ next_count (std_sink_faults self.old)) }
         ensures never_memory { IfErr result (λ e. e ≡ SinkRefusal.Failed) }
     {
-        self.handed_on = false;
+        self.flushed = false;
         match self.writer.write(piece) {
             Ok(0) if !piece.is_empty() => {
                 self.count_fault();
@@ -137,7 +137,7 @@ impl<W: Write> Sink for StdSink<W> {
     fn flush(&mut self) -> Result<(), SinkRefusal>
         ensures bytes { Keeps (W.contents (std_writer self.old))
             (W.contents (std_writer self.new)) }
-        ensures handed_on { OnOk result (std_sink_handed_on self.new ≡ true) }
+        ensures flushed { OnOk result (std_sink_flushed self.new ≡ true) }
         ensures cause { CountsFaults (result ≡ Err SinkRefusal.Failed)
             (std_sink_faults self.old) (std_sink_faults self.new) }
         ensures err { OnErr result
@@ -146,7 +146,7 @@ impl<W: Write> Sink for StdSink<W> {
     {
         match self.writer.flush() {
             Ok(()) => {
-                self.handed_on = true;
+                self.flushed = true;
                 Ok(())
             }
             Err(_) => {

@@ -69,7 +69,7 @@ impl Source for SureSource {
 #[derive(Drop, Debug)]
 pub struct SureSink {
     bytes: Vec<u8>,
-    handed_on: bool,
+    flushed: bool,
 }
 
 impl Model for SureSink {
@@ -77,17 +77,17 @@ impl Model for SureSink {
 
     ghost Value = { SureState };
 
-    ghost view = { λ s. record { bytes = s.bytes.items; handed_on = s.handed_on } };
+    ghost view = { λ s. record { bytes = s.bytes.items; flushed = s.flushed } };
 }
 
 impl SureSink {
     /// A sink to which nothing was written.
     pub fn new(alloc: Global) -> Self
-        ensures { result ≡ record { bytes = []; handed_on = true } }
+        ensures { result ≡ record { bytes = []; flushed = true } }
     {
         SureSink {
             bytes: Vec::new(alloc),
-            handed_on: true,
+            flushed: true,
         }
     }
 
@@ -102,7 +102,7 @@ impl SureSink {
 impl Sink for SureSink {
     ghost written = { λ s. Some s.bytes };
 
-    ghost handed_on = { λ s. s.handed_on };
+    ghost flushed = { λ s. s.flushed };
 
     ghost faults = { λ _. 0 };
 
@@ -111,13 +111,13 @@ impl Sink for SureSink {
         ensures bound { WritesAtMost result piece.now }
         ensures some { IfOk result (λ n. 0 < length piece.now → 0 < n) }
         ensures bytes { WriteAppends (Some self.old.bytes) (Some self.new.bytes) result piece.now }
-        ensures kept_back { OnOk result (self.new.handed_on ≡ false) }
+        ensures kept_back { OnOk result (self.new.flushed ≡ false) }
         ensures cause { CountsFaults (result ≡ Err SinkRefusal.Failed) 0 0 }
         ensures count { IfOk result (λ n. n ≡ length piece.now) }
         ensures never_failed { IfErr result (λ e. e ≡ SinkRefusal.Memory) }
     {
         self.bytes.extend_from_slice(piece)?;
-        self.handed_on = false;
+        self.flushed = false;
         Ok(piece.len())
     }
 
@@ -128,11 +128,11 @@ impl Sink for SureSink {
     /// Nothing is kept back, so this only notes that it is done.
     fn flush(&mut self) -> Result<(), SinkRefusal>
         ensures bytes { Keeps (Some self.old.bytes) (Some self.new.bytes) }
-        ensures handed_on { OnOk result (self.new.handed_on ≡ true) }
+        ensures flushed { OnOk result (self.new.flushed ≡ true) }
         ensures cause { CountsFaults (result ≡ Err SinkRefusal.Failed) 0 0 }
         ensures sure { IsOk result }
     {
-        self.handed_on = true;
+        self.flushed = true;
         Ok(())
     }
 }

@@ -13,13 +13,13 @@ use Rattle.cred_work.specs.DecidedWorks.{Stays}
 use Rattle.cred_book.specs.Works.{IsWorkOf, MayMake}
 
 -- the decided work is of the script, the files and the cells that it was of
-pub work_stays : (script : Script) (infos : List File) (cells : TableId) (before after : Work) → IsWorkOf script infos cells before → Stays before after
-    → IsWorkOf script infos cells after
-work_stays script infos cells before after is stays =
+pub work_stays : (script : Script) (inodes : List File) (cells : TableId) (before after : Work) → IsWorkOf script inodes cells before → Stays before after
+    → IsWorkOf script inodes cells after
+work_stays script inodes cells before after is stays =
     let event : work_event after.lent ≡ work_event before.lent = event_stays before.lent after.lent stays.lent in
     record {
       own = of_stays before.lent after.lent stays.lent cells is.own;
       made = subst (λ (e : Event). MayMake script after.line e) (sym event) (subst (λ n. MayMake script n (work_event before.lent)) (sym stays.line) is.made);
-      file = stays.file ∙ is.file ∙ ap (λ (e : Event). info_of infos (event_files e)) (sym event);
+      file = stays.file ∙ is.file ∙ ap (λ (e : Event). info_of inodes (event_files e)) (sym event);
       chain = chain_stays before.lent after.lent stays.lent script after.chain (rw stays.chain is.chain);
     }

@@ -11,7 +11,7 @@ use Rattle.cred_turn.specs.declared.numbers.LaneNumbers.{LaneNumbers}
 use Rattle.cred_turn.specs.declared.view.LaneRow.{LaneRow}
 use Rattle.cred_turn.specs.Rows.{fresh, home_row, lent_row, with_row, HasRow, row_of}
 use Rattle.cred_turn.specs.Seen.{Passed, Rolled, pass}
-use Rattle.cred_book.specs.Book.{Recorded, infos_in}
+use Rattle.cred_book.specs.Book.{Recorded, inodes_in}
 use Rattle.cred_book.specs.Cursor.{BookStands}
 use Rattle.cred_kernel.specs.Locks.{AreLent, IsLocked, numbers_in}
 use Rattle.cred_kernel.proofs.Stepping.{IsMoved}
@@ -56,20 +56,20 @@ abbrev pub relent : Rolled → ℕ → LaneRow → Rolled
 relent roll lane row = record { id = roll.id; rows = with_row roll.rows lane row }
 
 -- A pass came back, a step was made, and the row was lent again: all is as it must be where the lock is free.
-pub locked_after : (script : Script) (id cells : TableId) (infos : List File) (before after : Recorded) (roll taken lent : Rolled) (back : Passed)
+pub locked_after : (script : Script) (id cells : TableId) (inodes : List File) (before after : Recorded) (roll taken lent : Rolled) (back : Passed)
     (lane : ℕ) (was now : LaneNumbers)
-    → IsLocked script id cells infos before roll → IsMoved before after lane now → after.script ≡ before.script → after.words.id ≡ before.words.id
-    → infos_in after ≡ infos_in before → BookStands after → back ≡ pass id lane was → HasRow roll.rows back.lane
+    → IsLocked script id cells inodes before roll → IsMoved before after lane now → after.script ≡ before.script → after.words.id ≡ before.words.id
+    → inodes_in after ≡ inodes_in before → BookStands after → back ≡ pass id lane was → HasRow roll.rows back.lane
     → taken ≡ relent roll back.lane (home_row back.numbers)
-    → lent ≡ relent taken lane (lent_row now) → IsLocked script id cells infos after lent
-locked_after script id cells infos before after roll taken lent back lane was now is moved same own files stands its here took gave =
+    → lent ≡ relent taken lane (lent_row now) → IsLocked script id cells inodes after lent
+locked_after script id cells inodes before after roll taken lent back lane was now is moved same own files stands its here took gave =
     let there : HasRow roll.rows lane = subst (λ (p : Passed). HasRow roll.rows p.lane) its here in
     let again : lent ≡ relent (relent roll lane (home_row was)) lane (lent_row now)
     = gave ∙ ap (λ (r : Rolled). relent r lane (lent_row now)) (took ∙ ap (λ (p : Passed). relent roll p.lane (home_row p.numbers)) its) in
     record {
       script_is = same ∙ is.script_is;
       cells_are = own ∙ is.cells_are;
-      infos_are = files ∙ is.infos_are;
+      inodes_are = files ∙ is.inodes_are;
       roll_is = ap (λ (r : Rolled). r.id) again ∙ is.roll_is;
       stands = stands;
       set_up = moved.set_up is.set_up;

@@ -9,7 +9,7 @@ use Rattle.cred_model.specs.Journal.{due_in}
 use Rattle.cred_turn.specs.declared.numbers.LaneNumbers.{LaneNumbers}
 use Rattle.cred_work.specs.Work.{Work}
 use Rattle.cred_work.specs.DecidedWorks.{IsUndecided}
-use Rattle.cred_book.specs.Book.{Recorded, infos_in}
+use Rattle.cred_book.specs.Book.{Recorded, inodes_in}
 use Rattle.cred_book.specs.Counts as counts
 use Rattle.cred_book.specs.Counts.{Counts, IsOutNow, IsSetUp, decided_of, ended_of, entered_of}
 use Rattle.cred_book.specs.Cursor.{Makes}
@@ -112,15 +112,15 @@ has_entered before after lane works was now is then has = record {
 }
 
 -- so of a step
-pub advanced : {E : Type 0} (infos : List File) (cells : TableId) (before after : Recorded) (lane : ℕ) (was : LaneNumbers) (entry : Option Entry)
+pub advanced : {E : Type 0} (inodes : List File) (cells : TableId) (before after : Recorded) (lane : ℕ) (was : LaneNumbers) (entry : Option Entry)
     (step : Result Step E)
-    → was ≡ numbers_in before lane → was.out ≡ None → after.script ≡ before.script → after.words.id ≡ cells → infos_in after ≡ infos → IsSetUp before
+    → was ≡ numbers_in before lane → was.out ≡ None → after.script ≡ before.script → after.words.id ≡ cells → inodes_in after ≡ inodes → IsSetUp before
     → IfOk step (Makes before after lane entry) → IfOk step (Counts before after lane) → OnErr step (after ≡ before)
-    → IfOk step (Advanced before.script infos cells (seen lane was) (seen lane (after_step was (ended_of after.script after.journal lane) step)))
-advanced {E} infos cells before after lane was entry (Ok More) is home script own files up made counts err =
+    → IfOk step (Advanced before.script inodes cells (seen lane was) (seen lane (after_step was (ended_of after.script after.journal lane) step)))
+advanced {E} inodes cells before after lane was entry (Ok More) is home script own files up made counts err =
     let step : Result Step E = Ok More in
     has_entered before after lane 0 was _ is (moved before after lane was entry step is home script made counts err).own counts
-advanced {E} infos cells before after lane was entry (Ok (step.Work work)) is home script own files up made counts err =
+advanced {E} inodes cells before after lane was entry (Ok (step.Work work)) is home script own files up made counts err =
     let its = work_of before after lane entry work made in
     let same : ended_of after.script after.journal lane ≡ was.ended
     = ap (λ (s : Script). ended_of s after.journal lane) script
@@ -131,14 +131,14 @@ advanced {E} infos cells before after lane was entry (Ok (step.Work work)) is ho
       work_is = rw (← own, ← script, ← files) its.1.of;
       waits = its.0;
     }
-advanced {E} infos cells before after lane was entry (Ok Ended) is home script own files up made counts err =
+advanced {E} inodes cells before after lane was entry (Ok Ended) is home script own files up made counts err =
     let same = as_it_was before after lane entry made in
     let ended : ended_of after.script after.journal lane ≡ was.ended
     = ap (λ (b : Recorded). ended_of b.script b.journal lane) same ∙ sym (ap (λ (n : LaneNumbers). n.ended) is) in (
       ap (λ n. seen lane (record was { ended = n })) ended,
       (ended ∙ ap (λ (n : LaneNumbers). n.ended) is ∙ counts up, home),
     )
-advanced {E} infos cells before after lane was entry (Err e) is home script own files up made counts err = tt
+advanced {E} inodes cells before after lane was entry (Err e) is home script own files up made counts err = tt
 
 -- and of a work that came back
 pub moved_back : {E : Type 0} (before after : Recorded) (lane : ℕ) (was : LaneNumbers) (step : Result Step E)

@@ -26,22 +26,22 @@ pub record TurnHasEntered (script : Script) (works : ℕ) (old new : SeenTurn) :
 -- The turn had a line left, whose next event has gone out as a work of the script, of these files
 -- and of these cells. It is not decided yet, and nothing was entered.
 pub record HasGiven
-    (script : Script) (infos : List File) (cells : TableId)
+    (script : Script) (inodes : List File) (cells : TableId)
     (old new : SeenTurn) (work : Work) : Type 0 where
   pub turn : new ≡ record {
     lane = old.lane;
     numbers = record old.numbers { out = Some work.line };
   }
   pub left : old.numbers.ended < lines_in script old.lane
-  pub work_is : IsWorkOf script infos cells work
+  pub work_is : IsWorkOf script inodes cells work
   pub waits : IsUndecided work
 
 -- What a step made of the turn. It was Ended exactly if no line of the lane was left, and what was
 -- entered was no work's.
 abbrev pub Advanced : Script → List File → TableId → SeenTurn → SeenTurn → Step → Type 0
-Advanced script infos cells old new More = TurnHasEntered script 0 old new
-Advanced script infos cells old new (step.Work work) = HasGiven script infos cells old new work
-Advanced script infos cells old new Ended = (new ≡ old) × LaneHasEnded script new
+Advanced script inodes cells old new More = TurnHasEntered script 0 old new
+Advanced script inodes cells old new (step.Work work) = HasGiven script inodes cells old new work
+Advanced script inodes cells old new Ended = (new ≡ old) × LaneHasEnded script new
 
 -- the numbers of a lane after a step, where `ended` of its lines have then ended
 abbrev pub after_step : {E : Type 0} → LaneNumbers → ℕ → Result Step E → LaneNumbers

@@ -9,7 +9,7 @@ use Rattle.cred_book.specs.Works.{IsWorkOf}
 
 -- the work, decided, of the same line and of the same kernel
 pub record WasDecided
-    (script : Script) (infos : List File) (cells : TableId) (work decided : Work) : Type 0 where
+    (script : Script) (inodes : List File) (cells : TableId) (work decided : Work) : Type 0 where
   pub line : decided.line ≡ work.line
-  pub work_is : IsWorkOf script infos cells decided
+  pub work_is : IsWorkOf script inodes cells decided
   pub right : IsDecided decided

@@ -9,7 +9,7 @@ use Rattle.cred_turn.specs.declared.numbers.LaneNumbers.{LaneNumbers}
 use Rattle.cred_turn.specs.declared.view.LaneRow.{LaneRow}
 use Rattle.cred_turn.specs.Rows.{fresh, home_row, lent_row, HasRow, row_of}
 use Rattle.cred_turn.specs.Seen.{Rolled}
-use Rattle.cred_book.specs.Book.{Recorded, infos_in, out_of}
+use Rattle.cred_book.specs.Book.{Recorded, inodes_in, out_of}
 use Rattle.cred_book.specs.Counts.{IsSetUp, decided_of, ended_of, entered_of}
 use Rattle.cred_book.specs.Cursor.{BookStands}
 use Rattle.cred_kernel.specs.Turns.{SeenTurn, turn_at}
@@ -20,7 +20,7 @@ pub record KernelParts : Type 0 where
   pub script : Script
   pub roll : TableId
   pub cells : TableId
-  pub infos : List File
+  pub inodes : List File
 
 -- the numbers of a lane in a book, and the line of it whose work is out
 abbrev pub numbers_in : Recorded → ℕ → LaneNumbers
@@ -64,11 +64,11 @@ pub record AreLent (book : Recorded) (rows : List LaneRow) : Type 0 where
 -- the script may have so far, and the setup has ended: the files stand as it left them. Each lane's
 -- row has the lane's numbers in the book.
 pub record IsLocked
-    (script : Script) (roll_id cells : TableId) (infos : List File)
+    (script : Script) (roll_id cells : TableId) (inodes : List File)
     (book : Recorded) (roll : Rolled) : Type 0 where
   pub script_is : book.script ≡ script
   pub cells_are : book.words.id ≡ cells
-  pub infos_are : infos_in book ≡ infos
+  pub inodes_are : inodes_in book ≡ inodes
   pub roll_is : roll.id ≡ roll_id
   pub stands : BookStands book
   pub set_up : IsSetUp book

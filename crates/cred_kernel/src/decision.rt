@@ -43,8 +43,8 @@ pub fn decide<K: Name, G: Gate>(
     work: &mut Work,
 ) -> Result<(), NoMemory>
     requires out { turn.now.numbers.out ≡ Some work.old.line }
-    requires work { IsWorkOf K.script K.infos K.cells work.old }
-    ensures decided { OnOk result (WasDecided K.script K.infos K.cells work.old work.new) }
+    requires work { IsWorkOf K.script K.inodes K.cells work.old }
+    ensures decided { OnOk result (WasDecided K.script K.inodes K.cells work.old work.new) }
     ensures same { OnErr result (work.new ≡ work.old) }
 {
     let lane = turn.lane();

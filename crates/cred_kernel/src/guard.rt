@@ -71,7 +71,7 @@ impl<K: Name, J: Part> KernelGuard<'_, K, J> {
     /// is as it was.
     pub fn advance(&mut self) -> Result<Step, NoMemory>
         requires out { self.old.numbers.out ≡ None }
-        ensures step { IfOk result (Advanced K.script K.infos K.cells self.old self.new) }
+        ensures step { IfOk result (Advanced K.script K.inodes K.cells self.old self.new) }
         ensures err { OnErr result (self.new ≡ self.old) }
     {
         let cells = self.cells;
@@ -87,7 +87,7 @@ impl<K: Name, J: Part> KernelGuard<'_, K, J> {
     /// was.
     pub fn finish(&mut self, work: Work) -> Result<Step, Unfinished>
         requires out { self.old.numbers.out ≡ Some work.line }
-        requires work { IsWorkOf K.script K.infos K.cells work }
+        requires work { IsWorkOf K.script K.inodes K.cells work }
         requires decided { IsDecided work }
         ensures more { IfOk result (λ step. step ≡ More) }
         ensures entered { OnOk result (TurnHasEntered K.script 1 self.old self.new) }

@@ -68,7 +68,7 @@ impl<K: Name, J: Part> InPart<K, J> {
     pub(crate) fn step(&mut self, cells: &Cells, turn: &mut Turn<K>) -> Result<Step, NoMemory>
         requires own { cells.now ≡ K.cells }
         requires out { turn.old.numbers.out ≡ None }
-        ensures step { IfOk result (Advanced K.script K.infos K.cells turn.old turn.new) }
+        ensures step { IfOk result (Advanced K.script K.inodes K.cells turn.old turn.new) }
         ensures err { OnErr result (turn.new ≡ turn.old) }
     {
         self.locked.step(cells, turn)
@@ -89,7 +89,7 @@ impl<K: Name, J: Part> InPart<K, J> {
     ) -> Result<Step, Unfinished>
         requires own { cells.now ≡ K.cells }
         requires out { turn.old.numbers.out ≡ Some work.line }
-        requires work { IsWorkOf K.script K.infos K.cells work }
+        requires work { IsWorkOf K.script K.inodes K.cells work }
         requires decided { IsDecided work }
         ensures more { IfOk result (λ step. step ≡ More) }
         ensures entered { OnOk result (TurnHasEntered K.script 1 turn.old turn.new) }

@@ -44,7 +44,7 @@ impl<K: Name, J: Part> Kernel<K, J> {
     pub fn start(rest: Rest<K>) -> Kernel<K, J>
         requires { rest.earlier ≡ J.earlier }
     {
-        let (cells, locked) = rest.apart();
+        let (cells, locked) = rest.into_parts();
         Kernel {
             cells,
             lock: Mutex::new(InPart::of(locked)),

@@ -12,8 +12,8 @@
 //! between several events may be made, one step each, but none that waits for a decision: to decide
 //! takes the turn, and sees nothing of the lock.
 //!
-//! The journal is made in parts. Between two of them the kernel is at rest: no thread shares it, and
-//! its entries can be written and let go. The next part knows which entries came before it.
+//! The journal is made in parts. Between two of them the kernel is at rest: no thread shares it,
+//! and its entries can be written and let go. The next part knows which entries came before it.
 //!
 //! `Kernel::lock` may wait for the lock. `decide` waits for nobody but the caller's gate, and
 //! nothing else here waits.
@@ -38,6 +38,6 @@ pub use gate::{Gate, NoGate, Place};
 pub use guard::KernelGuard;
 pub use kernel::Kernel;
 pub use name::{Name, Part};
-pub use parts::Parts;
+pub use parts::KernelParts;
 pub use rest::Rest;
 pub use turns::{Turn, TurnList};

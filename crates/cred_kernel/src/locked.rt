@@ -1,5 +1,6 @@
 //! What stands under the lock, and the steps that are made there.
-ghost use Rattle.std.specs.Prelude.{◌≡◌, ◌<◌, ◌++◌, ◌^◌, true, None, Some, IfOk, IfErr, OnOk, OnErr};
+ghost use Rattle.std.specs.Prelude.{◌≡◌, ◌<◌, ◌++◌, ◌^◌, true, None, Some};
+ghost use Rattle.std.specs.Prelude.{IfOk, IfErr, OnOk, OnErr};
 ghost use Rattle.cred_model.specs.Journal.{IsLegal};
 ghost use Rattle.cred_work.specs.DecidedWorks.{IsDecided};
 ghost use Rattle.cred_book.specs.Parts.{BeginsLegal};
@@ -38,7 +39,7 @@ impl<K: Name> Model for Locked<K> {
       rows = s.roll.rows;
     } };
 
-    ghost invariant = { λ s. IsLocked K.script K.roll K.cells K.infos s.book s.roll };
+    ghost invariant = { λ s. IsLocked K.script K.roll K.cells K.inodes s.book s.roll };
 }
 
 impl<K: Name> Locked<K> {
@@ -97,7 +98,7 @@ impl<K: Name> Locked<K> {
         requires own { cells.now ≡ K.cells }
         requires out { turn.old.numbers.out ≡ None }
         ensures earlier { self.new.earlier ≡ self.old.earlier }
-        ensures step { IfOk result (Advanced K.script K.infos K.cells turn.old turn.new) }
+        ensures step { IfOk result (Advanced K.script K.inodes K.cells turn.old turn.new) }
         ensures err { OnErr result (turn.new ≡ turn.old) }
     {
         let Some(pass) = turn.pass.take() else {
@@ -124,7 +125,7 @@ impl<K: Name> Locked<K> {
     ) -> Result<Step, Unfinished>
         requires own { cells.now ≡ K.cells }
         requires out { turn.old.numbers.out ≡ Some work.line }
-        requires work { IsWorkOf K.script K.infos K.cells work }
+        requires work { IsWorkOf K.script K.inodes K.cells work }
         requires decided { IsDecided work }
         ensures earlier { self.new.earlier ≡ self.old.earlier }
         ensures more { IfOk result (λ step. step ≡ More) }

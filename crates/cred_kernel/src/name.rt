@@ -16,7 +16,7 @@ pub trait Name {
 
     ghost cells: { TableId };
 
-    ghost infos: { List File };
+    ghost inodes: { List File };
 }
 
 impl Name for Brand {
@@ -29,7 +29,7 @@ impl Name for Brand {
 
     ghost cells = { no_table };
 
-    ghost infos = { [] };
+    ghost inodes = { [] };
 }
 
 /// Which part of the journal it is, by the entries of the parts before it, which contracts alone

@@ -18,15 +18,15 @@ use std::marker::Model;
 /// A book whose setup has run, its cells, and a roll with a row for each of the script's other
 /// lanes. Nobody shares them yet.
 #[derive(Drop)]
-pub struct Parts {
+pub struct KernelParts {
     pub(crate) book: Book,
     pub(crate) cells: Cells,
     pub(crate) roll: Roll,
 }
 
-impl Model for Parts {
+impl Model for KernelParts {
     ghost use Rattle.std.specs.Prelude.{◌≡◌, []};
-    ghost use Rattle.cred_book.specs.Book.{infos_in};
+    ghost use Rattle.cred_book.specs.Book.{inodes_in};
     ghost use Rattle.cred_kernel.specs.Locks.{IsNewKernel, KernelParts};
 
     ghost Value = { KernelParts };
@@ -35,7 +35,7 @@ impl Model for Parts {
       script = p.book.script;
       roll = p.roll.id;
       cells = p.cells;
-      infos = infos_in p.book;
+      inodes = inodes_in p.book;
     } };
 
     ghost invariant = { λ p. IsNewKernel p.book p.roll
@@ -43,13 +43,13 @@ impl Model for Parts {
         × (p.book.earlier ≡ []) };
 }
 
-impl Parts {
+impl KernelParts {
     /// The parts of a kernel of this script, whose setup is run for it.
     ///
     /// # Errors
     ///
     /// `NoMemory` if an allocation of the book, of an event of the setup or of the roll fails.
-    pub fn new(alloc: Global, script: Script) -> Result<Parts, NoMemory>
+    pub fn new(alloc: Global, script: Script) -> Result<KernelParts, NoMemory>
         ensures script { IfOk result (λ parts. parts.script ≡ script) }
     {
         let (book, cells) = set_up(alloc, script)?;
@@ -57,7 +57,7 @@ impl Parts {
             drop(book);
             return Err(NoMemory);
         };
-        Ok(Parts { book, cells, roll })
+        Ok(KernelParts { book, cells, roll })
     }
 }
 

@@ -7,7 +7,7 @@ ghost use Rattle.cred_kernel.specs.Turns.{AreAllTurns, AreCounted, AreFresh};
 use crate::cells::KernelCells;
 use crate::locked::Locked;
 use crate::name::Name;
-use crate::parts::Parts;
+use crate::parts::KernelParts;
 use crate::passes::{lend_all, take_all};
 use crate::turns::TurnList;
 use cred_book::LastPart;
@@ -49,15 +49,15 @@ impl<K: Name> Rest<K> {
     /// # Errors
     ///
     /// `NoMemory` if the allocation of the list of turns fails.
-    pub fn new(alloc: Global, parts: Parts) -> Result<(Rest<K>, TurnList<K>), NoMemory>
+    pub fn new(alloc: Global, parts: KernelParts) -> Result<(Rest<K>, TurnList<K>), NoMemory>
         requires script { parts.script ≡ K.script }
         requires roll { parts.roll ≡ K.roll }
         requires cells { parts.cells ≡ K.cells }
-        requires infos { parts.infos ≡ K.infos }
+        requires inodes { parts.inodes ≡ K.inodes }
         ensures fresh { IfOk result (λ made. AreFresh K.script made.1) }
         ensures earlier { IfOk result (λ made. made.0.earlier ≡ []) }
     {
-        let Parts {
+        let KernelParts {
             book,
             cells,
             mut roll,
@@ -81,7 +81,7 @@ impl<K: Name> Rest<K> {
     }
 
     /// Its cells, and what the lock is to keep.
-    pub(crate) fn apart(self) -> (KernelCells<K>, Locked<K>)
+    pub(crate) fn into_parts(self) -> (KernelCells<K>, Locked<K>)
         ensures { result.1 ≡ self }
     {
         let Rest { cells, locked } = self;

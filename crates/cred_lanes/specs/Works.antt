@@ -24,14 +24,14 @@ AllStopped {E} stopped =
 -- What a worker comes back to the lock with, by what its last step came to: the work of its lane
 -- that is out, which is decided, or nothing where none is out.
 abbrev pub IsReturn : Script → List File → TableId → SeenTurn → Step → Type 0
-IsReturn script infos cells turn More = turn.numbers.out ≡ None
-IsReturn script infos cells turn (step.Work work) =
-    (turn.numbers.out ≡ Some work.line) × WasDecided script infos cells work work
-IsReturn script infos cells turn Ended = turn.numbers.out ≡ None
+IsReturn script inodes cells turn More = turn.numbers.out ≡ None
+IsReturn script inodes cells turn (step.Work work) =
+    (turn.numbers.out ≡ Some work.line) × WasDecided script inodes cells work work
+IsReturn script inodes cells turn Ended = turn.numbers.out ≡ None
 
 -- How a worker leaves the lock: no work of its lane is out, or one is, and it has it.
 abbrev pub HasGoneOn : Script → List File → TableId → SeenTurn → SeenTurn → Step → Type 0
-HasGoneOn script infos cells old new More = (new.lane ≡ old.lane) × (new.numbers.out ≡ None)
-HasGoneOn script infos cells old new (step.Work work) =
-    (new.lane ≡ old.lane) × (new.numbers.out ≡ Some work.line) × IsWorkOf script infos cells work
-HasGoneOn script infos cells old new Ended = (new.lane ≡ old.lane) × (new.numbers.out ≡ None)
+HasGoneOn script inodes cells old new More = (new.lane ≡ old.lane) × (new.numbers.out ≡ None)
+HasGoneOn script inodes cells old new (step.Work work) =
+    (new.lane ≡ old.lane) × (new.numbers.out ≡ Some work.line) × IsWorkOf script inodes cells work
+HasGoneOn script inodes cells old new Ended = (new.lane ≡ old.lane) × (new.numbers.out ≡ None)

@@ -108,8 +108,8 @@ fn go_on<K: Name, J: Part, R: Wait>(
     turn: Turn<K>,
     last: Step,
 ) -> Result<(Turn<K>, Step), NoMemory>
-    requires { IsReturn K.script K.infos K.cells turn last }
-    ensures { IfOk result (λ gone. HasGoneOn K.script K.infos K.cells turn gone.0 gone.1) }
+    requires { IsReturn K.script K.inodes K.cells turn last }
+    ensures { IfOk result (λ gone. HasGoneOn K.script K.inodes K.cells turn gone.0 gone.1) }
 {
     let mut guard = kernel.lock(rt, turn);
     if let Step::Work(work) = last {
@@ -126,7 +126,7 @@ fn go_on<K: Name, J: Part, R: Wait>(
 /// `NoMemory` if an allocation of the state or of an entry fails.
 fn enter<K: Name, J: Part>(guard: &mut KernelGuard<'_, K, J>, work: Work) -> Result<(), NoMemory>
     requires out { guard.old.numbers.out ≡ Some work.line }
-    requires work { IsWorkOf K.script K.infos K.cells work }
+    requires work { IsWorkOf K.script K.inodes K.cells work }
     requires decided { IsDecided work }
     ensures { IfOk result (λ _.
         (guard.new.lane ≡ guard.old.lane) × (guard.new.numbers.out ≡ None)) }
@@ -153,7 +153,7 @@ fn enter<K: Name, J: Part>(guard: &mut KernelGuard<'_, K, J>, work: Work) -> Res
 /// it stay.
 fn advance_some<K: Name, J: Part>(guard: &mut KernelGuard<'_, K, J>) -> Result<Step, NoMemory>
     requires { guard.old.numbers.out ≡ None }
-    ensures { IfOk result (HasGoneOn K.script K.infos K.cells guard.old guard.new) }
+    ensures { IfOk result (HasGoneOn K.script K.inodes K.cells guard.old guard.new) }
 {
     let most = 1 + guard.entered() / SHARE;
     for _ in 0..most {

@@ -167,7 +167,7 @@ module _ (script : Script) (journal : List Entry) (k : ℕ) (entry : Entry) (is 
 
     altered_one : (p : Prepared) (base : Numbered) (to : Changed) (answer : Answer) → prepared_of s label ≡ Some p → numbered s.creds p.base ≡ Some base
         → to.change ≡ change → is_ok entry.answer ≡ true
-        → by_change (info_of s.infos (change_files to.change)) (chain_of script base.cred.ns) base.cred to.change
+        → by_change (info_of s.inodes (change_files to.change)) (chain_of script base.cred.ns) base.cred to.change
         ≡ Ok (record { answer = answer; cred = to.cred; gains = to.gains })
         → (q : Prepared) → ((q.label == label) ≡ true → q ≡ p) → IsOf k s.creds q → IsOf (k + 1) s.creds (altered_at label to q)
     altered_one p base to answer found at same ok so q one old =
@@ -184,7 +184,7 @@ module _ (script : Script) (journal : List Entry) (k : ℕ) (entry : Entry) (is 
               } in
               subst (λ (found : Option Numbered). IsMadeFrom (IsFileOf script journal (k + 1) q.label to.change) script found to)
               (sym at ∙ ap (λ (r : Prepared). numbered s.creds r.base) (sym (one test)))
-              (info_of s.infos (change_files to.change), answer, so, (k, last, refl))
+              (info_of s.inodes (change_files to.change), answer, so, (k, last, refl))
           | false ↦ λ test.
               let other : (label == q.label) ≡ false = grind (arith, nat_tests) in
               let none : has_altered q.label entry ≡ false
@@ -199,8 +199,8 @@ module _ (script : Script) (journal : List Entry) (k : ℕ) (entry : Entry) (is 
         = λ r. answer_of r ≡ entry.answer → AreMadeFrom (IsFileOf script journal (k + 1)) script (outcome s r).1 in
         some_case Q (prepared_of s label) _ _ (λ answered. refused_all (ap is_ok (sym answered)))
         (λ p found. some_case Q (numbered s.creds p.base) _ _ (λ answered. refused_all (ap is_ok (sym answered)))
-        (λ base at. made_case Q (by_change (info_of s.infos (change_files change)) (chain_of script base.cred.ns) base.cred change) _
-        (change_told (info_of s.infos (change_files change)) (chain_of script base.cred.ns) base.cred change)
+        (λ base at. made_case Q (by_change (info_of s.inodes (change_files change)) (chain_of script base.cred.ns) base.cred change) _
+        (change_told (info_of s.inodes (change_files change)) (chain_of script base.cred.ns) base.cred change)
         (λ refused denied answered. refused_all (ap is_ok (sym answered) ∙ denied))
         (λ m so ok answered.
         let to : Changed = record { change = change; cred = m.cred; gains = m.gains } in

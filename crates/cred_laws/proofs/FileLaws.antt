@@ -25,7 +25,7 @@ use Rattle.cred_model.specs.Script.{Script}
 use Rattle.cred_model.specs.State.{State, held_by}
 use Rattle.cred_model.specs.Step.{done, outcome, step}
 use Rattle.cred_sound.proofs.Events.{changes}
-use Rattle.cred_sound.proofs.Parts.{InfosChange, SameInfos, Writes}
+use Rattle.cred_sound.proofs.Parts.{InodesChange, SameInodes, Writes}
 use Rattle.cred_laws.specs.Files.{FilesChangeByCalls, FilesAreAsMany, IsStripped, HasStripped, resets, ChownStrips, StaysStripped}
 use Rattle.cred_laws.proofs.Cases.{some_case}
 use Rattle.cred_laws.proofs.Unexecuted.{answer_of, answers_settled}
@@ -50,32 +50,32 @@ same_file : (a b : List File) (place : ℕ) (old new : File) → b ≡ a → sli
 same_file a b place old new same was is =
     let both : Some old ≡ Some new = sym was ∙ ap (λ (xs : List File). slice_get xs place) (sym same) ∙ is in cc
 
-changed_so : (s : State) (event : Event) (made : Answer × State) (place : ℕ) (old new : File) → InfosChange s event made
-    → slice_get s.infos place ≡ Some old → slice_get made.1.infos place ≡ Some new → old ≢ new
+changed_so : (s : State) (event : Event) (made : Answer × State) (place : ℕ) (old new : File) → InodesChange s event made
+    → slice_get s.inodes place ≡ Some old → slice_get made.1.inodes place ≡ Some new → old ≢ new
     → (changed_file event ≡ Some place) × (made.0 ≡ Done)
-changed_so s event made place old new (SameInfos same) was is differ =
-    absurd (differ (same_file s.infos made.1.infos place old new same was is))
+changed_so s event made place old new (SameInodes same) was is differ =
+    absurd (differ (same_file s.inodes made.1.inodes place old new same was is))
 changed_so s event made place old new (Writes at held before after on there ruled done now) was is differ =
     elim (place == at) as (λ b. (place == at) ≡ b → (changed_file event ≡ Some place) × (made.0 ≡ Done)) [
       | true ↦ λ test. (on ∙ ap Some (sym (eqb-true place at test)), done)
       | false ↦ λ test.
           let other : place ≢ at = eqb-false place at test in
-          let kept : slice_get made.1.infos place ≡ slice_get s.infos place
-          = ap (λ (xs : List File). slice_get xs place) now ∙ get-set_other s.infos at place after other in
+          let kept : slice_get made.1.inodes place ≡ slice_get s.inodes place
+          = ap (λ (xs : List File). slice_get xs place) now ∙ get-set_other s.inodes at place after other in
           let both : Some old ≡ Some new = sym was ∙ sym kept ∙ is in
           absurd (differ (cc))
     ] refl
 
 pub files_change_by_calls : FilesChangeByCalls
 files_change_by_calls script s line event place old new was is differ =
-    changed_so s event (step script s line event) place old new (changes script s line event).infos was is differ
+    changed_so s event (step script s line event) place old new (changes script s line event).inodes was is differ
 
-as_many : (s : State) (event : Event) (made : Answer × State) → InfosChange s event made → length made.1.infos ≡ length s.infos
-as_many s event made (SameInfos same) = ap length same
-as_many s event made (Writes at held before after on there ruled done now) = ap length now ∙ length-set s.infos at after
+as_many : (s : State) (event : Event) (made : Answer × State) → InodesChange s event made → length made.1.inodes ≡ length s.inodes
+as_many s event made (SameInodes same) = ap length same
+as_many s event made (Writes at held before after on there ruled done now) = ap length now ∙ length-set s.inodes at after
 
 pub files_are_as_many : FilesAreAsMany
-files_are_as_many script s line event = as_many s event (step script s line event) (changes script s line event).infos
+files_are_as_many script s line event = as_many s event (step script s line event) (changes script s line event).inodes
 
 -- ---- what a chown takes away
 
@@ -128,13 +128,13 @@ rule_case : (Q : Result (Answer × State) Answer → Type 0) (r : Result File De
 rule_case Q (Ok file) f none each = each file refl
 rule_case Q (Err denial) f none each = none denial
 
-chown_case : (script : Script) (s : State) (line hold place : ℕ) (owner group : Arg) (old : File) → slice_get s.infos place ≡ Some old
+chown_case : (script : Script) (s : State) (line hold place : ℕ) (owner group : Arg) (old : File) → slice_get s.inodes place ≡ Some old
     → strips old owner group ≡ true → answer_of (done script s line (Chown hold place owner group)) ≡ Done
-    → HasStripped (outcome s (done script s line (Chown hold place owner group))).1.infos place
+    → HasStripped (outcome s (done script s line (Chown hold place owner group))).1.inodes place
 chown_case script s line hold place owner group old was test =
-    let Q : Result (Answer × State) Answer → Type 0 = λ r. answer_of r ≡ Done → HasStripped (outcome s r).1.infos place in
+    let Q : Result (Answer × State) Answer → Type 0 = λ r. answer_of r ≡ Done → HasStripped (outcome s r).1.inodes place in
     some_case Q (held_by s hold) _ _ (λ answered. cc)
-    (λ held at. some_case Q (slice_get s.infos place) _ _ (λ answered. cc)
+    (λ held at. some_case Q (slice_get s.inodes place) _ _ (λ answered. cc)
     (λ file there. rule_case Q (chown held.cred file owner group) _ (λ denial answered. absurd (not_done denial answered))
     (λ new ruled answered.
     let both : Some old ≡ Some file = sym was ∙ there in
@@ -142,7 +142,7 @@ chown_case script s line hold place owner group old was test =
     let so : IsStripped new
     = subst IsStripped (chown_is held.cred file owner group new ruled)
     (chowned_strips file owner group (ap (λ (f : File). strips f owner group) (sym same) ∙ test)) in
-    subst (λ (o : Option File). IfSome o IsStripped) (sym (get-set_same s.infos place new file there)) so)))
+    subst (λ (o : Option File). IfSome o IsStripped) (sym (get-set_same s.inodes place new file there)) so)))
 
 pub chown_strips : ChownStrips
 chown_strips script s line hold place owner group old was test answered =
@@ -164,23 +164,23 @@ written_so (SetAttr hold file attr) place c old new on none ruled has =
     absurd (eqb-false place place test refl)
 written_so event place c old new on none ruled has = cc
 
-stays_so : (s : State) (event : Event) (made : Answer × State) (place : ℕ) → InfosChange s event made → HasStripped s.infos place
-    → resets event place ≡ false → HasStripped made.1.infos place
-stays_so s event made place (SameInfos same) has none = subst (λ infos. HasStripped infos place) (sym same) has
+stays_so : (s : State) (event : Event) (made : Answer × State) (place : ℕ) → InodesChange s event made → HasStripped s.inodes place
+    → resets event place ≡ false → HasStripped made.1.inodes place
+stays_so s event made place (SameInodes same) has none = subst (λ inodes. HasStripped inodes place) (sym same) has
 stays_so s event made place (Writes at held before after on there ruled done now) has none =
-    subst (λ infos. HasStripped infos place) (sym now)
-    (elim (place == at) as (λ b. (place == at) ≡ b → HasStripped (slice_set s.infos at after) place) [
+    subst (λ inodes. HasStripped inodes place) (sym now)
+    (elim (place == at) as (λ b. (place == at) ≡ b → HasStripped (slice_set s.inodes at after) place) [
       | true ↦ λ test.
           let here : at ≡ place = sym (eqb-true place at test) in
-          let stood : slice_get s.infos place ≡ Some before = ap (slice_get s.infos) (sym here) ∙ there in
+          let stood : slice_get s.inodes place ≡ Some before = ap (slice_get s.inodes) (sym here) ∙ there in
           let was : IsStripped before = subst (λ (o : Option File). IfSome o IsStripped) stood has in
           let so = written_so event place held.cred before after (on ∙ ap Some here) none ruled was in
-          subst (λ n. HasStripped (slice_set s.infos n after) place) (sym here)
-          (subst (λ (o : Option File). IfSome o IsStripped) (sym (get-set_same s.infos place after before stood)) so)
+          subst (λ n. HasStripped (slice_set s.inodes n after) place) (sym here)
+          (subst (λ (o : Option File). IfSome o IsStripped) (sym (get-set_same s.inodes place after before stood)) so)
       | false ↦ λ test.
-          subst (λ (o : Option File). IfSome o IsStripped) (sym (get-set_other s.infos at place after (eqb-false place at test))) has
+          subst (λ (o : Option File). IfSome o IsStripped) (sym (get-set_other s.inodes at place after (eqb-false place at test))) has
     ] refl)
 
 pub stays_stripped : StaysStripped
 stays_stripped script s line event place has none =
-    stays_so s event (step script s line event) place (changes script s line event).infos has none
+    stays_so s event (step script s line event) place (changes script s line event).inodes has none

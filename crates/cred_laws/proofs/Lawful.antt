@@ -16,7 +16,7 @@ use Rattle.cred_event.specs.declared.answer.Answer.{Answer}
 use Rattle.cred_event.specs.declared.answer.Answer.TheVariants.{Done, Executed, Sealed}
 use Rattle.cred_event.specs.declared.event.Change.TheVariants.{Exec}
 use Rattle.cred_event.specs.declared.event.Event.TheVariants.{Release, CloseFile, Chown, Raw}
-use Rattle.cred_event.specs.declared.event.Mode.{Mode}
+use Rattle.cred_record.specs.declared.mode.PtraceMode.{PtraceMode}
 use Rattle.cred_event.specs.declared.entry.Entry.{Entry}
 use Rattle.cred_model.specs.Script.{Script}
 use Rattle.cred_model.specs.State.{State, SealedCred, Task, Numbered, numbered, task_of, current_of, opener_of, held_by}
@@ -217,7 +217,7 @@ pub completes_for_all : (script : Script) (journal : List Entry) → IsAnswered 
 completes_for_all script journal answered k process call =
     completes_by script journal k process call (slice_get journal k) refl (answered_at script journal answered k)
 
-looks_by : (script : Script) (journal : List Entry) (k process : ℕ) (mode : Mode) (own other : Credential) (o : Option Entry)
+looks_by : (script : Script) (journal : List Entry) (k process : ℕ) (mode : PtraceMode) (own other : Credential) (o : Option Entry)
     → IfSome o (λ entry. entry.answer ≡ (step script (state_at script journal k) entry.line entry.event).0)
     → IfSome o
     (λ entry. AsksWithoutCap (state_at script journal k) entry.event mode own other process → entry.answer ≡ Done
@@ -293,20 +293,20 @@ stays_undumpable script journal answered k l task owner before after later found
 
 files_by : (script : Script) (journal : List Entry) (k place : ℕ) (old new : File) (o : Option Entry) → slice_get journal k ≡ o
     → IfSome o (λ entry. entry.answer ≡ (step script (state_at script journal k) entry.line entry.event).0)
-    → slice_get (state_at script journal k).infos place ≡ Some old → slice_get (state_at script journal (k + 1)).infos place ≡ Some new → old ≢ new
+    → slice_get (state_at script journal k).inodes place ≡ Some old → slice_get (state_at script journal (k + 1)).inodes place ≡ Some new → old ≢ new
     → IfSome o (λ entry. (changed_file entry.event ≡ Some place) × (entry.answer ≡ Done))
 files_by script journal k place old new (Some entry) is answered was now differ =
     let s = state_at script journal k in
     let both = files_change_by_calls script s entry.line entry.event place old new was
-    (ap (λ (t : State). slice_get t.infos place) (sym (step_at script journal k entry is)) ∙ now) differ in
+    (ap (λ (t : State). slice_get t.inodes place) (sym (step_at script journal k entry is)) ∙ now) differ in
     (both.0, answered ∙ both.1)
 files_by script journal k place old new None is answered was now differ = tt
 
 as_many_by : (script : Script) (journal : List Entry) (k : ℕ) (o : Option Entry) → slice_get journal k ≡ o
-    → IfSome o (λ _. length (state_at script journal (k + 1)).infos ≡ length (state_at script journal k).infos)
+    → IfSome o (λ _. length (state_at script journal (k + 1)).inodes ≡ length (state_at script journal k).inodes)
 as_many_by script journal k (Some entry) is =
     let s = state_at script journal k in
-    ap (λ (t : State). length t.infos) (step_at script journal k entry is) ∙ files_are_as_many script s entry.line entry.event
+    ap (λ (t : State). length t.inodes) (step_at script journal k entry is) ∙ files_are_as_many script s entry.line entry.event
 as_many_by script journal k None is = tt
 
 pub files_stay : (script : Script) (journal : List Entry) → IsAnswered script journal → FilesStay script journal
@@ -318,13 +318,13 @@ files_stay script journal answered = record {
 
 chowned_at : (script : Script) (journal : List Entry) (k place hold : ℕ) (owner group : Arg) (old : File) (entry : Entry) → slice_get journal k ≡ Some entry
     → entry.answer ≡ (step script (state_at script journal k) entry.line entry.event).0
-    → entry.event ≡ Chown hold place owner group → entry.answer ≡ Done → slice_get (state_at script journal k).infos place ≡ Some old
-    → strips old owner group ≡ true → HasStripped (state_at script journal (k + 1)).infos place
+    → entry.event ≡ Chown hold place owner group → entry.answer ≡ Done → slice_get (state_at script journal k).inodes place ≡ Some old
+    → strips old owner group ≡ true → HasStripped (state_at script journal (k + 1)).inodes place
 chowned_at script journal k place hold owner group old entry is answered event_is done was test =
     let s = state_at script journal k in
     let call = Chown hold place owner group in
     let so : (step script s entry.line call).0 ≡ Done = ap (λ e. (step script s entry.line e).0) (sym event_is) ∙ sym answered ∙ done in
-    subst (λ (t : State). HasStripped t.infos place)
+    subst (λ (t : State). HasStripped t.inodes place)
     (ap (λ e. (step script s entry.line e).1) (sym event_is) ∙ sym (step_at script journal k entry is))
     (chown_strips script s entry.line hold place owner group old was test so)
 
@@ -334,9 +334,9 @@ chowns_strip script journal answered k l place hold owner group old entry before
     let here : entry.answer ≡ (step script (state_at script journal k) entry.line entry.event).0
     = subst (λ (o : Option Entry). IfSome o (λ entry. entry.answer ≡ (step script (state_at script journal k) entry.line entry.event).0)) is
     (answered_at script journal answered k) in
-    subst (λ (t : State). HasStripped t.infos place)
+    subst (λ (t : State). HasStripped t.inodes place)
     (sym (ap (replay script) (take_between journal (k + 1) l (omega arith)) ∙ replay-append script (take (k + 1) journal) more))
-    (left_by_each (λ t. HasStripped t.infos place) (λ event. resets event place ≡ false)
+    (left_by_each (λ t. HasStripped t.inodes place) (λ event. resets event place ≡ false)
     (λ script s line event. stays_stripped script s line event place) script (state_at script journal (k + 1)) more
     (chowned_at script journal k place hold owner group old entry is here event_is done was test)
     (each_between (λ later. resets later.event place ≡ false) journal (k + 1) l (λ i above below. none i (omega (arith, above)) below)))

@@ -61,7 +61,7 @@ all_made script s event left t sound creds (Alters label to p base answer prepar
     changed_as (IsMade script t.creds) label to _
     (λ test.
     subst (λ found. IsChangedFrom script found to)
-    (sym now ∙ ap (λ (q : Prepared). numbered t.creds q.base) (sym (one k d lt test))) (info_of s.infos (change_files to.change), answer, so, tt))
+    (sym now ∙ ap (λ (q : Prepared). numbered t.creds q.base) (sym (one k d lt test))) (info_of s.inodes (change_files to.change), answer, so, tt))
     (made k d lt)))
 all_made script s event left t sound creds (Ends label place p ends prepared at is) made =
     subst (All (IsMade script t.creds)) (sym prepared) (All-remove (IsMade script t.creds) s.prepared place made)

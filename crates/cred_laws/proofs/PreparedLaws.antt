@@ -13,7 +13,7 @@ use Rattle.cred_laws.specs.Held.{preparation_of, ends_label, PreparedStays}
 use Rattle.std.proofs.lemmas.Bool.{eqb-false}
 use Rattle.cred_model.proofs.Lists.{find_changed, find-remove_other}
 use Rattle.cred_model.proofs.Numbers.{changed_as, changed_label}
-use Rattle.cred_sound.specs.Ledger.{SealsOf}
+use Rattle.cred_sound.specs.SlotUse.{SealsOf}
 use Rattle.cred_sound.proofs.Parts.{PreparedChange, SamePrepared, Prepares, Alters, Ends}
 use Rattle.cred_sound.proofs.Events.{changes}
 use Rattle.cred_laws.proofs.HeldLaws.{goes_on, left_by_each}

@@ -18,13 +18,13 @@ use Rattle.cred_event.specs.declared.event.Change.{Change}
 use Rattle.cred_event.specs.declared.event.Change.TheVariants.{Exec}
 use Rattle.cred_event.specs.declared.event.Event.{Event}
 use Rattle.cred_event.specs.declared.event.Event.TheVariants.{Commit, Dumpable}
-use Rattle.cred_event.specs.declared.event.Mode.{Mode}
-use Rattle.cred_event.specs.declared.event.Mode.TheVariants.{Fs, Real}
+use Rattle.cred_record.specs.declared.mode.PtraceMode.{PtraceMode}
+use Rattle.cred_record.specs.declared.mode.PtraceMode.TheVariants.{Fs, Real}
 use Rattle.cred_model.specs.Script.{Script, reaches}
 use Rattle.cred_model.specs.State.{State, Task, Hold, Prepared, Changed, Numbered, ProcessFlag, numbered, task_of, current_of, hold_of, held_by, prepared_of}
 use Rattle.cred_model.specs.Ends.{is_thread_of, is_beside}
 use Rattle.cred_caps.specs.Numbers.{SYS_PTRACE}
-use Rattle.cred_model.specs.Ptrace.{asking_caps, are_all, has_asking_ids, has_sys_ptrace, is_no_stronger, may_trace}
+use Rattle.cred_rules.specs.Ptrace.{asking_caps, are_all, has_asking_ids, has_sys_ptrace, is_no_stronger, may_trace}
 use Rattle.cred_model.specs.Dumpable.{flag_in, is_dumpable, with_process_flag, flagged, set_flag, without_flag, differs, renewed, is_gain, flags_by, differs_by}
 use Rattle.cred_model.specs.Dumpable.{flags_begun, flags_left, flag_of_value}
 use Rattle.cred_model.specs.TaskEvents.{by_ptrace}
@@ -48,7 +48,7 @@ use Rattle.cred_laws.proofs.ValidLaws.{numbered_valid}
 -- ---- who looks into whom
 
 -- the question passed the check
-record Traced (script : Script) (s : State) (from hold to target : ℕ) (mode : Mode) : Type 0 where
+record Traced (script : Script) (s : State) (from hold to target : ℕ) (mode : PtraceMode) : Type 0 where
   sender : Task
   receiver : Task
   own : Numbered
@@ -60,7 +60,7 @@ record Traced (script : Script) (s : State) (from hold to target : ℕ) (mode : 
   may : may_trace own.cred other.cred (sender.process == receiver.process) (reaches script.namespaces own.cred.ns other.cred.ns)
       (is_dumpable s.dumpable receiver.process) mode ≡ true
 
-traced : (script : Script) (s : State) (from hold to target : ℕ) (mode : Mode)
+traced : (script : Script) (s : State) (from hold to target : ℕ) (mode : PtraceMode)
     → answer_of (by_ptrace script s from hold to target mode) ≡ Done → Traced script s from hold to target mode
 traced script s from hold to target mode =
     let Q : Result (Answer × State) Answer → Type 0 = λ r. answer_of r ≡ Done → Traced script s from hold to target mode in
@@ -114,11 +114,11 @@ all_are id ids is =
     }
 
 -- what is asked by is permitted
-asked_within : (mode : Mode) (from : Credential) (perm : Caps) → IsValid from → IsWithin perm (asking_caps mode from) → IsWithin perm from.perm
+asked_within : (mode : PtraceMode) (from : Credential) (perm : Caps) → IsValid from → IsWithin perm (asking_caps mode from) → IsWithin perm from.perm
 asked_within Fs from perm valid within = within-trans perm from.eff from.perm within valid.effective
 asked_within Real from perm valid within = within
 
-own_alone : (mode : Mode) (from to : Credential) → IsValid from → has_asking_ids from to mode ≡ true → is_no_stronger from to mode ≡ true
+own_alone : (mode : PtraceMode) (from to : Credential) → IsValid from → has_asking_ids from to mode ≡ true → is_no_stronger from to mode ≡ true
     → IsOwn mode from to
 own_alone mode from to valid ids within =
     let both = and_both _ _ ids in
@@ -146,7 +146,7 @@ one_found o x y a b = let both : Some x ≡ Some y = sym a ∙ b in cc
 named_cred : (o : Option Numbered) (n : Numbered) (c : Credential) → o ≡ Some n → option_map (λ (x : Numbered). x.cred) o ≡ Some c → n.cred ≡ c
 named_cred o n c is named = let both : Some n.cred ≡ Some c = sym (ap (option_map (λ (x : Numbered). x.cred)) is) ∙ named in cc
 
-looks_by : (script : Script) (s : State) (line : ℕ) (mode : Mode) (own other : Credential) (process : ℕ) (event : Event) → AreValid s
+looks_by : (script : Script) (s : State) (line : ℕ) (mode : PtraceMode) (own other : Credential) (process : ℕ) (event : Event) → AreValid s
     → (a : AsksWithoutCap s event mode own other process) → answer_of (done script s line event) ≡ Done
     → IsOwn mode own other × (is_dumpable s.dumpable process ≡ true)
 looks_by script s line mode own other process event valid a answered =

@@ -35,7 +35,7 @@ use Rattle.cred_model.specs.State.{credential_of, opener_of, held_by, info_of}
 use Rattle.cred_model.specs.Broadcasts.{not_busy, others_of, with_broadcast, waits_no_more}
 use Rattle.cred_model.specs.Ends.{is_thread_of}
 use Rattle.cred_model.specs.Slots.{free, swept_if_full}
-use Rattle.cred_model.specs.Ptrace.{may_trace}
+use Rattle.cred_rules.specs.Ptrace.{may_trace}
 use Rattle.cred_model.specs.Dumpable.{is_dumpable, differs, renewed, flags_begun, flag_of_value}
 use Rattle.cred_model.specs.Answers.{refusal, flag, checked, reply}
 use Rattle.cred_model.specs.Change.{Made, made_by_rule, made_by_exec, by_rule, by_change}
@@ -217,7 +217,7 @@ file_rule_plain (Err denial) f each = record { is = refusal_plain denial }
 file_plain_by : (s : State) (hold place : ℕ) (rule : Credential → File → Result File Denial) → Plain (by_file s hold place rule)
 file_plain_by s hold place rule =
     some_plain (held_by s hold) _ _ refl
-    (λ held. some_plain (slice_get s.infos place) _ _ refl
+    (λ held. some_plain (slice_get s.inodes place) _ _ refl
     (λ old. file_rule_plain (rule held.cred old) _ (λ new. at_once _ _ refl)))
 
 pub plain : (script : Script) (s : State) (line : ℕ) (event : Event) → commits event ≡ false → Plain (done script s line event)
@@ -256,8 +256,8 @@ plain script s line (Prepare label task hold) other =
 plain script s line (Alter label change) other =
     some_plain (prepared_of s label) _ _ refl
     (λ p. some_plain (numbered s.creds p.base) _ _ refl
-    (λ base. alter_plain (by_change (info_of s.infos (change_files change)) (chain_of script base.cred.ns) base.cred change) _
-    (change_plain (info_of s.infos (change_files change)) (chain_of script base.cred.ns) base.cred change) (λ made. refl)))
+    (λ base. alter_plain (by_change (info_of s.inodes (change_files change)) (chain_of script base.cred.ns) base.cred change) _
+    (change_plain (info_of s.inodes (change_files change)) (chain_of script base.cred.ns) base.cred change) (λ made. refl)))
 plain script s line (Commit label) other = cc
 plain script s line (Abort label) other =
     some_plain (position (λ p. p.label == label) s.prepared) _ _ refl
@@ -300,7 +300,7 @@ plain script s line (Act number) other =
 plain script s line (OpenFile hold place asked fd) other =
     some_plain (held_by s hold) _ _ refl
     (λ held. none_plain (open_of s fd) _ _ refl
-    (passed_plain (checked held.cred (info_of s.infos (place ∷ [])) asked) _ (file_plain held.cred (info_of s.infos (place ∷ [])) asked)
+    (passed_plain (checked held.cred (info_of s.inodes (place ∷ [])) asked) _ (file_plain held.cred (info_of s.inodes (place ∷ [])) asked)
     (fewer_plain (length s.files) OPEN_FILES _ _ refl (at_once _ _ refl))))
 plain script s line (CloseFile fd) other =
     some_plain (position (λ f. f.fd == fd) s.files) _ _ refl
@@ -336,7 +336,7 @@ plain script s line (Chown hold place owner group) other = file_plain_by s hold 
 plain script s line (Chmod hold place mode) other = file_plain_by s hold place (λ c file. chmod c file mode)
 plain script s line (SetAttr hold place attr) other = file_plain_by s hold place (λ c file. set_attr c file attr)
 plain script s line (Stat hold place) other =
-    some_plain (held_by s hold) _ _ refl (λ held. some_plain (slice_get s.infos place) _ _ refl (λ file. at_once _ _ refl))
+    some_plain (held_by s hold) _ _ refl (λ held. some_plain (slice_get s.inodes place) _ _ refl (λ file. at_once _ _ refl))
 plain script s line (Raw task call) other =
     some_plain (task_of s task) _ _ refl
     (λ owner. some_plain (numbered s.creds owner.current) _ _ refl

@@ -7,14 +7,14 @@ use Rattle.cred_model.specs.State.{State, SealedCred, Numbered, numbered}
 use Rattle.cred_model.specs.Slots.{in_use}
 use Rattle.cred_model.proofs.Lists.{All-left}
 use Rattle.cred_model.proofs.Numbers.{numbered_is, numbered_last, sealed_cred_of}
-use Rattle.cred_sound.specs.Ledger.{ledger, IsOrderly}
+use Rattle.cred_sound.specs.SlotUse.{slot_use, IsOrderly}
 use Rattle.cred_sound.proofs.Parts.{CredsChange, SameCreds, Seals, sealed_cred}
 use Rattle.cred_sound.proofs.Events.{changes}
 use Rattle.cred_laws.specs.Slots.{IsUnusedSlot, NoHeldSlotIsRewritten}
 
 -- Of the credentials after an event, those that the state had not stand in slots that were not in
 -- use.
-unused : (s : State) (event : Event) (left : List ℕ) (t : State) → CredsChange s event left t → IsOrderly (ledger s)
+unused : (s : State) (event : Event) (left : List ℕ) (t : State) → CredsChange s event left t → IsOrderly (slot_use s)
     → (number : ℕ) (new : Numbered) → length s.creds ≤ number → numbered t.creds number ≡ Some new
     → IsUnusedSlot s event new.slot
 unused s event left t (SameCreds same) order number new past is =
@@ -30,7 +30,7 @@ unused s event left t (Seals c slot creds fits origin) order number new past is 
     let one : record { number = length s.creds; cred = c; slot = slot } ≡ new = cc in
     let fit = fits order in
     subst (IsUnusedSlot s event) (ap (λ (n : Numbered). n.slot) one)
-    (record { clear = All-left (λ n. slice_get (ledger s).slots n ≢ Some slot) (in_use s) left fit.clear; kept = fit.own })
+    (record { clear = All-left (λ n. slice_get (slot_use s).slots n ≢ Some slot) (in_use s) left fit.clear; kept = fit.own })
 
 pub no_held_slot_is_rewritten : NoHeldSlotIsRewritten
 no_held_slot_is_rewritten script s line event number new sound =

@@ -57,13 +57,14 @@ Creates (Spawn task other) parent child = (task ≡ parent) × (other ≡ child)
 Creates (Fork task other process) parent child = (task ≡ parent) × (other ≡ child)
 Creates event parent child = ⊥
 
--- After `more` entries from entry `first` on, the task is this one or was created by one that is: it
--- was so before the last of them and has lived since, or it was created by that entry. A task whose
--- number is given again is another one.
+-- After `more` entries from entry `first` on, the task is this one or was created by one that is:
+-- it was so before the last of them and has lived since, or it was created by that entry. A task
+-- whose number is given again is another one.
 abbrev pub Descends : Script → List Entry → (first from more task : ℕ) → Type 0
 Descends script journal first from zero task = task ≡ from
 Descends script journal first from (suc more) task =
-    (Descends script journal first from more task × Lives (state_at script journal (more + first)) task)
+    (Descends script journal first from more task
+    × Lives (state_at script journal (more + first)) task)
     ⊎ ((parent : ℕ) × Descends script journal first from more parent
     × (task_of (state_at script journal (more + first)) task ≡ None)
     × IfSome (slice_get journal (more + first)) (λ entry. Creates entry.event parent task))

@@ -28,15 +28,15 @@ use Rattle.cred_laws.specs.States.{state_at}
 abbrev pub FilesChangeByCalls : Type 0
 FilesChangeByCalls =
     (script : Script) (s : State) (line : ℕ) (event : Event) (place : ℕ) (old new : File)
-    → slice_get s.infos place ≡ Some old
-    → slice_get (step script s line event).1.infos place ≡ Some new → old ≢ new
+    → slice_get s.inodes place ≡ Some old
+    → slice_get (step script s line event).1.inodes place ≡ Some new → old ≢ new
     → (changed_file event ≡ Some place) × ((step script s line event).0 ≡ Done)
 
 -- No event adds a file, or takes one away.
 abbrev pub FilesAreAsMany : Type 0
 FilesAreAsMany =
     (script : Script) (s : State) (line : ℕ) (event : Event)
-    → length (step script s line event).1.infos ≡ length s.infos
+    → length (step script s line event).1.inodes ≡ length s.inodes
 
 -- ---- what a chown takes away
 
@@ -47,7 +47,7 @@ pub record IsStripped (file : File) : Type 0 where
 
 -- this holds of the file at a place
 abbrev pub HasStripped : List File → ℕ → Type 0
-HasStripped infos place = IfSome (slice_get infos place) IsStripped
+HasStripped inodes place = IfSome (slice_get inodes place) IsStripped
 
 -- the event may give the file at this place set-id bits or an attribute again
 abbrev pub resets : Event → ℕ → Bool
@@ -60,16 +60,16 @@ resets event place = false
 abbrev pub ChownStrips : Type 0
 ChownStrips =
     (script : Script) (s : State) (line hold place : ℕ) (owner group : Arg) (old : File)
-    → slice_get s.infos place ≡ Some old → strips old owner group ≡ true
+    → slice_get s.inodes place ≡ Some old → strips old owner group ≡ true
     → (step script s line (Chown hold place owner group)).0 ≡ Done
-    → HasStripped (step script s line (Chown hold place owner group)).1.infos place
+    → HasStripped (step script s line (Chown hold place owner group)).1.inodes place
 
 -- A file that has neither stays so over each event but a chmod of it and a change of its attribute.
 abbrev pub StaysStripped : Type 0
 StaysStripped =
     (script : Script) (s : State) (line : ℕ) (event : Event) (place : ℕ)
-    → HasStripped s.infos place → resets event place ≡ false
-    → HasStripped (step script s line event).1.infos place
+    → HasStripped s.inodes place → resets event place ≡ false
+    → HasStripped (step script s line event).1.inodes place
 
 -- ---- which file a label was changed with
 
@@ -99,4 +99,4 @@ pub record IsLastChange (journal : List Entry) (upto label : ℕ) (change : Chan
 abbrev pub IsFileOf : Script → List Entry → ℕ → ℕ → Change → Option File → Type 0
 IsFileOf script journal k label change file =
     (at : ℕ) × IsLastChange journal k label change at
-    × (info_of (state_at script journal at).infos (change_files change) ≡ file)
+    × (info_of (state_at script journal at).inodes (change_files change) ≡ file)

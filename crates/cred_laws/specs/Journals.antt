@@ -15,7 +15,7 @@ use Rattle.cred_event.specs.declared.event.Change.{Change}
 use Rattle.cred_event.specs.declared.event.Change.TheVariants.{Exec}
 use Rattle.cred_event.specs.declared.event.Event.TheVariants.{Release, Begin, CloseFile, Chown}
 use Rattle.cred_event.specs.declared.event.Event.TheVariants.{Raw}
-use Rattle.cred_event.specs.declared.event.Mode.{Mode}
+use Rattle.cred_record.specs.declared.mode.PtraceMode.{PtraceMode}
 use Rattle.cred_event.specs.declared.entry.Entry.{Entry}
 use Rattle.cred_model.specs.Script.{Script}
 use Rattle.cred_model.specs.State.{State, Task, Prepared, Numbered, numbered, task_of, broadcast_in}
@@ -125,14 +125,14 @@ ExecvesByTheRule script journal =
     (state_at script journal (k + 1)))
     × IsFileOf script journal k x.prepared.label (Exec x.place) (Some x.file))
 
--- An entry leaves as many files as there were, and a file changes only by one of chown(2), chmod(2),
--- or setxattr(2) or removexattr(2) of its attribute, on that file, that isn't refused.
+-- An entry leaves as many files as there were, and a file changes only by one of chown(2),
+-- chmod(2), or setxattr(2) or removexattr(2) of its attribute, on that file, that isn't refused.
 pub record FilesStay (script : Script) (journal : List Entry) : Type 0 where
   pub many : (k : ℕ) → IfSome (slice_get journal k) (λ _.
-      length (state_at script journal (k + 1)).infos ≡ length (state_at script journal k).infos)
+      length (state_at script journal (k + 1)).inodes ≡ length (state_at script journal k).inodes)
   pub calls : (k place : ℕ) (old new : File)
-      → slice_get (state_at script journal k).infos place ≡ Some old
-      → slice_get (state_at script journal (k + 1)).infos place ≡ Some new → old ≢ new
+      → slice_get (state_at script journal k).inodes place ≡ Some old
+      → slice_get (state_at script journal (k + 1)).inodes place ≡ Some new → old ≢ new
       → IfSome (slice_get journal k) (λ entry.
       (changed_file entry.event ≡ Some place) × (entry.answer ≡ Done))
 
@@ -143,11 +143,11 @@ abbrev pub ChownsStrip : Script → List Entry → Type 0
 ChownsStrip script journal =
     (k l place hold : ℕ) (owner group : Arg) (old : File) (entry : Entry) → k < l
     → slice_get journal k ≡ Some entry → entry.event ≡ Chown hold place owner group
-    → entry.answer ≡ Done → slice_get (state_at script journal k).infos place ≡ Some old
+    → entry.answer ≡ Done → slice_get (state_at script journal k).inodes place ≡ Some old
     → strips old owner group ≡ true
     → ((i : ℕ) → k < i → i < l
     → IfSome (slice_get journal i) (λ later. resets later.event place ≡ false))
-    → HasStripped (state_at script journal l).infos place
+    → HasStripped (state_at script journal l).inodes place
 
 -- An id call of one thread alone leaves every other task the current credential that it had.
 abbrev pub RawsLeave : Script → List Entry → Type 0
@@ -232,7 +232,7 @@ KeepsAlike script journal =
 -- no more than the one that asks, and its process is dumpable.
 abbrev pub LooksIntoOwn : Script → List Entry → Type 0
 LooksIntoOwn script journal =
-    (k process : ℕ) (mode : Mode) (own other : Credential)
+    (k process : ℕ) (mode : PtraceMode) (own other : Credential)
     → IfSome (slice_get journal k) (λ entry.
     AsksWithoutCap (state_at script journal k) entry.event mode own other process
     → entry.answer ≡ Done

@@ -5,7 +5,7 @@ use Rattle.cred_model.specs.Script.{Script}
 use Rattle.cred_model.specs.State.{State, Numbered, numbered}
 use Rattle.cred_model.specs.Slots.{in_use}
 use Rattle.cred_model.specs.Step.{step}
-use Rattle.cred_sound.specs.Ledger.{ledger, IsClear, SealsOf}
+use Rattle.cred_sound.specs.SlotUse.{slot_use, IsClear, SealsOf}
 use Rattle.cred_sound.specs.Sound.{IsSound}
 
 -- No reference in use is to a credential in the slot, and no prepared label keeps it but the one
@@ -13,7 +13,7 @@ use Rattle.cred_sound.specs.Sound.{IsSound}
 -- stays in its place: a sealed number keeps its slot for good (`KeepsSealed`), and nothing else is
 -- put into that slot while a reference in use is to it (`WritesUnusedSlots`, which is this).
 pub record IsUnusedSlot (s : State) (event : Event) (slot : ℕ) : Type 0 where
-  pub clear : IsClear (ledger s).slots slot (in_use s)
+  pub clear : IsClear (slot_use s).slots slot (in_use s)
   pub kept : All (λ p. p.slot ≡ slot → SealsOf event p.label) s.prepared
 
 -- Each credential that an event seals in a sound state is put into such a slot.

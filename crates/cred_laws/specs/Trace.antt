@@ -11,11 +11,11 @@ use Rattle.cred_event.specs.declared.answer.Answer.{Answer}
 use Rattle.cred_event.specs.declared.answer.Answer.TheVariants.{Done, Executed}
 use Rattle.cred_event.specs.declared.event.Event.{Event}
 use Rattle.cred_event.specs.declared.event.Event.TheVariants.{Dumpable, Ptrace}
-use Rattle.cred_event.specs.declared.event.Mode.{Mode}
+use Rattle.cred_record.specs.declared.mode.PtraceMode.{PtraceMode}
 use Rattle.cred_model.specs.Script.{Script}
 use Rattle.cred_model.specs.State.{State, Task, Numbered, task_of, current_of, held_by}
 use Rattle.cred_model.specs.Ends.{is_thread_of}
-use Rattle.cred_model.specs.Ptrace.{asking_user, asking_group}
+use Rattle.cred_rules.specs.Ptrace.{asking_user, asking_group}
 use Rattle.cred_model.specs.Dumpable.{is_dumpable, differs}
 use Rattle.cred_model.specs.Step.{step}
 use Rattle.cred_sound.specs.Sound.{IsSound}
@@ -31,14 +31,14 @@ pub record AreAll (id : ℕ) (ids : Ids4) : Type 0 where
 
 -- The one credential is that of a task which could do all that the other's may: all its user ids
 -- and all its group ids are those that are asked by, and it is permitted no more.
-pub record IsOwn (mode : Mode) (from to : Credential) : Type 0 where
+pub record IsOwn (mode : PtraceMode) (from to : Credential) : Type 0 where
   pub user : AreAll (asking_user mode from) to.uid
   pub group : AreAll (asking_group mode from) to.gid
   pub permitted : IsWithin to.perm from.perm
 
 -- The event asks whether a task of another process may be looked into, by a credential without
 -- CAP_SYS_PTRACE.
-pub record AsksWithoutCap (s : State) (event : Event) (mode : Mode) (own other : Credential)
+pub record AsksWithoutCap (s : State) (event : Event) (mode : PtraceMode) (own other : Credential)
     (process : ℕ) : Type 0 where
   pub from : ℕ
   pub hold : ℕ
@@ -59,7 +59,7 @@ pub record AsksWithoutCap (s : State) (event : Event) (mode : Mode) (own other :
 -- permitted no more, and its process is dumpable.
 abbrev pub LooksIntoOwnAlone : Type 0
 LooksIntoOwnAlone =
-    (script : Script) (s : State) (line : ℕ) (event : Event) (mode : Mode)
+    (script : Script) (s : State) (line : ℕ) (event : Event) (mode : PtraceMode)
     (own other : Credential) (process : ℕ)
     → AreValid s → AsksWithoutCap s event mode own other process
     → (step script s line event).0 ≡ Done

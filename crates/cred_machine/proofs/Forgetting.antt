@@ -107,7 +107,7 @@ module _ (s : State) (creds : List SealedCred) (r : References) (are : AreOf r s
     prepared = refl;
     deferred = refl;
     dumpable = refl;
-    infos = refl;
+    inodes = refl;
     slots = slots;
     creds = All-weaker (Contains (refs s)) (λ n. slice_get creds n ≡ slice_get s.creds n)
         (λ n has. kept n (refer_is r s n are ∙ among (refs s) n has)) (refs s) (All-contains_itself (refs s));

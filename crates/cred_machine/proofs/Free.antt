@@ -17,7 +17,7 @@ same_found p q a (suc n) same =
 -- tests that agree on all slots find the same one
 pub same_slot : (p q : ℕ → Bool) → ((k : ℕ) → k < SLOTS → p k ≡ q k) → find p slots ≡ find q slots
 unfolding slots
-same_slot p q same = same_found p q 0 256 (λ k l h. same k h)
+same_slot p q same = same_found p q 0 SLOTS (λ k l h. same k h)
 
 pub any-map : {X Y : Type 0} (p : Y → Bool) (f : X → Y) (xs : List X) → list_any p (map f xs) ≡ list_any (λ x. p (f x)) xs
 any-map p f [] = refl

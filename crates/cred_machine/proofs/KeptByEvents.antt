@@ -128,13 +128,13 @@ with_flags s t answer flags keeps = record { left = keeps.left; each = by keeps.
     more (OneMore new is there) = OneMore new is there
 
 -- and so do the files
-pub with_infos : (s t : State) (answer : Answer) (infos : List File) → Keeps s (answer, t) → Keeps s (answer, record t { infos = infos })
-with_infos s t answer infos keeps = record { left = keeps.left; each = by keeps.each; swept = keeps.swept; creds = more keeps.creds }
+pub with_inodes : (s t : State) (answer : Answer) (inodes : List File) → Keeps s (answer, t) → Keeps s (answer, record t { inodes = inodes })
+with_inodes s t answer inodes keeps = record { left = keeps.left; each = by keeps.each; swept = keeps.swept; creds = more keeps.creds }
   where
     by : EachRef (Contains (refs t)) (with_left s keeps.left) → EachRef (Contains (refs t)) (with_left s keeps.left)
     by each = each
 
-    more : CredsKept s t → CredsKept s (record t { infos = infos })
+    more : CredsKept s t → CredsKept s (record t { inodes = inodes })
     more (NoneMore same) = NoneMore same
     more (OneMore new is there) = OneMore new is there
 

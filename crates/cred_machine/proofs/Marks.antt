@@ -21,11 +21,11 @@ pub first_clear-is : (marks : List Bool) (s : ℕ) → s < SLOTS → get_or mark
     → find (λ slot. not (get_or marks slot false)) slots ≡ Some s
 unfolding slots
 first_clear-is marks s within here before =
-    find_first (λ slot. not (get_or marks slot false)) 0 256 s (omega arith) within (ap not here) (λ k l h. ap not (before k h))
+    find_first (λ slot. not (get_or marks slot false)) 0 SLOTS s (omega arith) within (ap not here) (λ k l h. ap not (before k h))
 
 pub first_clear-none : (marks : List Bool) → ((k : ℕ) → k < SLOTS → get_or marks k false ≡ true) → find (λ slot. not (get_or marks slot false)) slots ≡ None
 unfolding slots
-first_clear-none marks each = find_none (λ slot. not (get_or marks slot false)) 0 256 (λ k l h. ap not (each k h))
+first_clear-none marks each = find_none (λ slot. not (get_or marks slot false)) 0 SLOTS (λ k l h. ap not (each k h))
 
 -- no slot is marked at first
 pub unmarked : (count slot : ℕ) → get_or (replicate count false) slot false ≡ false

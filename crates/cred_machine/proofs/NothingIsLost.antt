@@ -18,7 +18,7 @@ use Rattle.cred_event.specs.declared.event.Event.{Event}
 use Rattle.cred_event.specs.declared.event.Event.TheVariants.{Init, Take, TakeFile, Release, Ask, Signal, Prepare, Alter, Commit, Abort, Override, Revert}
 use Rattle.cred_event.specs.declared.event.Event.TheVariants.{Begin, Act, OpenFile, CloseFile, Spawn, Fork, Exit, Sweep, Dumpable, Dumped, Ptrace, Chown, Chmod}
 use Rattle.cred_event.specs.declared.event.Event.TheVariants.{SetAttr, Stat, Raw}
-use Rattle.cred_event.specs.declared.event.Mode.{Mode}
+use Rattle.cred_record.specs.declared.mode.PtraceMode.{PtraceMode}
 use Rattle.cred_model.specs.Answers.{checked}
 use Rattle.cred_model.specs.Broadcasts.{dropped, joined, others_of, waits_no_more, with_broadcast}
 use Rattle.cred_model.specs.Change.{by_change, by_rule}
@@ -27,7 +27,7 @@ use Rattle.cred_model.specs.Dumpable.{differs, flag_of_value, flags_begun, flags
 use Rattle.cred_model.specs.Ends.{ended, is_task, is_thread_of}
 use Rattle.cred_model.specs.Moves.{created, first_task, preparing, replaced, table_full}
 use Rattle.cred_model.specs.Named.{change_files}
-use Rattle.cred_model.specs.Ptrace.{may_trace}
+use Rattle.cred_rules.specs.Ptrace.{may_trace}
 use Rattle.cred_model.specs.Script.{Script, chain_of, reaches, root_of}
 use Rattle.cred_model.specs.State.{State, Task, Broadcast, Prepared, Numbered, begun_by, broadcast_in, broadcast_of, credential_of, held_by, hold_of, info_of}
 use Rattle.cred_model.specs.State.{numbered}
@@ -41,7 +41,7 @@ use Rattle.cred_sound.proofs.Parts.{with_left}
 use Rattle.cred_sound.proofs.Tests.{outcome_has, if_some, if_none, if_either, if_fewer, if_passed, if_idle, if_own, if_last, if_rule, if_file_rule, if_ok}
 use Rattle.cred_machine.specs.Kept.{as_begun}
 use Rattle.cred_machine.proofs.KeptByEvents.{IsLeft, Keeps, alters, closes, gives_up_prepared, if_left, if_left_one, in_slots, less, opens, prepares, refused}
-use Rattle.cred_machine.proofs.KeptByEvents.{releases, still, takes_hold, with_flags, with_infos}
+use Rattle.cred_machine.proofs.KeptByEvents.{releases, still, takes_hold, with_flags, with_inodes}
 use Rattle.cred_machine.proofs.KeepingTasks.{creates, ends_some, lends, lends_prepared, replaces, reverts, shares, tries_commit}
 
 -- where no slot is free
@@ -77,7 +77,7 @@ open_keeps script s line hold place asked fd =
     outcome_has Q s _ (refused s)
     (if_some Q (held_by s hold) _ _
     (λ held is. if_none Q (open_of s fd) _ _
-    (λ new. if_passed Q (checked held.cred (info_of s.infos (place ∷ [])) asked) _
+    (λ new. if_passed Q (checked held.cred (info_of s.inodes (place ∷ [])) asked) _
     (if_fewer Q (length s.files) OPEN_FILES _ _
     (opens s (record { fd = fd; opener = held.number; file = place }))))))
 
@@ -121,7 +121,7 @@ alter_keeps script s line label change =
     outcome_has Q s _ (refused s)
     (if_some Q (prepared_of s label) _ _
     (λ p is. if_some Q (numbered s.creds p.base) _ _
-    (λ base at. if_ok Q (by_change (info_of s.infos (change_files change)) (chain_of script base.cred.ns) base.cred change) _
+    (λ base at. if_ok Q (by_change (info_of s.inodes (change_files change)) (chain_of script base.cred.ns) base.cred change) _
     (λ made so. alters s made.answer label (record { change = change; cred = made.cred; gains = made.gains })))))
 
 commit_keeps : (script : Script) (s : State) (line label : ℕ) → IsSound s → Keeps s (step script s line (Commit label))
@@ -275,7 +275,7 @@ dumpable_keeps script s line task value =
     (λ owner is. if_some Q (flag_of_value value) _ _
     (λ flag known. with_flags s s Done (set_flag s.dumpable owner.process flag) (refused s Done))))
 
-ptrace_keeps : (script : Script) (s : State) (line from hold to target : ℕ) (mode : Mode) → Keeps s (step script s line (Ptrace from hold to target mode))
+ptrace_keeps : (script : Script) (s : State) (line from hold to target : ℕ) (mode : PtraceMode) → Keeps s (step script s line (Ptrace from hold to target mode))
 ptrace_keeps script s line from hold to target mode =
     let Q = Keeps s in
     outcome_has Q s _ (refused s)
@@ -295,16 +295,16 @@ file_keeps s hold place rule =
     let Q = Keeps s in
     outcome_has Q s _ (refused s)
     (if_some Q (held_by s hold) _ _
-    (λ held is. if_some Q (slice_get s.infos place) _ _
+    (λ held is. if_some Q (slice_get s.inodes place) _ _
     (λ old there. if_file_rule Q (rule held.cred old) _
-    (λ new ruled. with_infos s s Done (slice_set s.infos place new) (refused s Done)))))
+    (λ new ruled. with_inodes s s Done (slice_set s.inodes place new) (refused s Done)))))
 
 stat_keeps : (s : State) (hold place : ℕ) → Keeps s (outcome s (by_stat s hold place))
 stat_keeps s hold place =
     let Q = Keeps s in
     outcome_has Q s _ (refused s)
     (if_some Q (held_by s hold) _ _
-    (λ held is. if_some Q (slice_get s.infos place) _ _ (λ file there. refused s _)))
+    (λ held is. if_some Q (slice_get s.inodes place) _ _ (λ file there. refused s _)))
 
 -- with the answer by which a call of one thread alone counts
 abbrev raw_counted : Answer × State → Answer × State

@@ -14,9 +14,9 @@ use Rattle.cred_model.specs.TaskEvents.{by_exit, by_fork, by_ptrace, by_signal, 
 use Rattle.cred_model.specs.LabelEvents.{by_prepare}
 use Rattle.cred_model.specs.Step.{outcome}
 use Rattle.cred_model.specs.Dumpable.{is_dumpable}
-use Rattle.cred_model.specs.Ptrace.{may_trace}
+use Rattle.cred_rules.specs.Ptrace.{may_trace}
 use Rattle.cred_model.specs.Script.{Script, reaches}
-use Rattle.cred_event.specs.declared.event.Mode.{Mode}
+use Rattle.cred_record.specs.declared.mode.PtraceMode.{PtraceMode}
 
 pub exit_busy : (s : State) (task : ℕ) (owner : Task) (answer : Answer) → task_of s task ≡ Some owner → not_busy (begun_by s task) ≡ Err answer
     → outcome s (by_exit s task) ≡ (answer, s)
@@ -97,7 +97,7 @@ module _ (s : State) (from hold to target : ℕ) (sender receiver : Task) (sends
         let test : may_signal own.cred other.cred (sender.process == receiver.process) ≡ false = sym is ∙ not_so in rw (sends, receives, has, there, test) refl
 
 -- a task that would look into another
-module _ (script : Script) (s : State) (from hold to target : ℕ) (mode : Mode) (sender receiver : Task)
+module _ (script : Script) (s : State) (from hold to target : ℕ) (mode : PtraceMode) (sender receiver : Task)
     (sends : task_of s from ≡ Some sender) (receives : task_of s to ≡ Some receiver) where
   pub trace_own : held_by s hold ≡ None → outcome s (by_ptrace script s from hold to target mode) ≡ (NoHold hold, s)
   trace_own none = rw (sends, receives, none) refl

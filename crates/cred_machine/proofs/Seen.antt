@@ -1,7 +1,7 @@
 -- What contracts see of a state and of what stands in it, by the fields of the code, and what was found there.
 use Rattle.std.proofs.Common.{◌≡◌, ℕ, Bool, List, find, get_or, position, reverse, slice_get, Some, sym, ap, ◌∙◌}
 use Rattle.cred_model.specs.State.{State, Task, Broadcast, Prepared}
-use Rattle.cred_plain.specs.declared.casts.Cast.TheInside as broadcast
+use Rattle.cred_plain.specs.declared.broadcasts.Broadcast.TheInside as broadcast
 use Rattle.cred_plain.specs.declared.labels.Prepared.TheInside as prepared
 use Rattle.cred_plain.specs.declared.one_task.Task.TheInside as task
 use Rattle.cred_plain.proofs.Places.{at_place}
@@ -15,8 +15,8 @@ seen_state s = record {
   holds = s.holds.items;
   prepared = s.prepared.items;
   deferred = s.deferred.items;
-  dumpable = s.dump;
-  infos = s.infos;
+  dumpable = s.flags;
+  inodes = s.inodes;
   creds = s.creds.list;
 }
 

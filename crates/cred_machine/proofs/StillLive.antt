@@ -325,7 +325,7 @@ event_lives script s line (Alter label change) sound none keeps =
     outcome_has Q s _ (λ answer k. refl)
     (if_some Q (prepared_of s label) _ _
     (λ p is. if_some Q (numbered s.creds p.base) _ _
-    (λ base at. if_ok Q (by_change (info_of s.infos (change_files change)) (chain_of script base.cred.ns) base.cred change) _
+    (λ base at. if_ok Q (by_change (info_of s.inodes (change_files change)) (chain_of script base.cred.ns) base.cred change) _
     (λ made so. alter_lives s made.answer label (record { change = change; cred = made.cred; gains = made.gains })))))
 event_lives script s line (Commit label) sound none keeps =
     commit_event_lives script s line label sound (not_both (is_too_late (step script s line (Commit label)).0) keeps)

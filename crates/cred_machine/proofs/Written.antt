@@ -80,13 +80,13 @@ module _ (s : State) (hold place : ℕ) (rule : Credential → File → Result F
   file_unheld none = rw none refl
 
   module _ (held : Numbered) (has : held_by s hold ≡ Some held) where
-    pub file_none : slice_get s.infos place ≡ None → outcome s (by_file s hold place rule) ≡ (NoHold hold, s)
+    pub file_none : slice_get s.inodes place ≡ None → outcome s (by_file s hold place rule) ≡ (NoHold hold, s)
     file_none none = rw (has, none) refl
 
-    module _ (old : File) (there : slice_get s.infos place ≡ Some old) where
-      pub file_written : (new : File) (infos : List File) → rule held.cred old ≡ Ok new → infos ≡ slice_set s.infos place new
-          → outcome s (by_file s hold place rule) ≡ (Done, record s { infos = infos })
-      file_written new infos ruled now = rw (has, there, ruled, now) refl
+    module _ (old : File) (there : slice_get s.inodes place ≡ Some old) where
+      pub file_written : (new : File) (inodes : List File) → rule held.cred old ≡ Ok new → inodes ≡ slice_set s.inodes place new
+          → outcome s (by_file s hold place rule) ≡ (Done, record s { inodes = inodes })
+      file_written new inodes ruled now = rw (has, there, ruled, now) refl
 
       file_denied : (answer : Answer) → by_rule (rule held.cred old) ≡ Err answer → outcome s (by_file s hold place rule) ≡ (answer, s)
       file_denied answer ruled = rw (has, there, ruled) refl
@@ -104,9 +104,9 @@ module _ (s : State) (hold place : ℕ) where
   stat_unheld none = rw none refl
 
   module _ (held : Numbered) (has : held_by s hold ≡ Some held) where
-    pub stat_none : slice_get s.infos place ≡ None → outcome s (by_stat s hold place) ≡ (NoHold hold, s)
+    pub stat_none : slice_get s.inodes place ≡ None → outcome s (by_stat s hold place) ≡ (NoHold hold, s)
     stat_none none = rw (has, none) refl
 
-    pub stands : (file : File) (attr : Bool) → slice_get s.infos place ≡ Some file → attr ≡ is_some file.attr
+    pub stands : (file : File) (attr : Bool) → slice_get s.inodes place ≡ Some file → attr ≡ is_some file.attr
         → outcome s (by_stat s hold place) ≡ (Told (told.File file.owner file.group file.mode attr), s)
     stands file attr there is = rw (has, there, is) refl

@@ -103,23 +103,10 @@ impl State {
         ensures err { OnErr result (self.new ≡ self.old) }
     {
         match event {
-            Event::Init {
-                task,
-                process,
-                user,
-                group,
-                ns,
-            } => self.init(*task, *process, *user, *group, *ns, root_of(script, *ns)),
             Event::Take { label, task, side } => self.take(*label, *task, *side),
             Event::TakeFile { label, fd } => self.take_file(*label, *fd),
             Event::Release { label } => self.release(*label),
             Event::Ask { label, query } => self.ask(*label, *query),
-            Event::Signal {
-                from,
-                hold,
-                to,
-                target,
-            } => Ok(self.signal(*from, *hold, *to, *target)),
             Event::Prepare { label, task, hold } => self.prepare(live, *label, *task, *hold),
             Event::Alter { label, change } => self.alter(script, *label, *change),
             Event::Commit { label } => self.commit(*label),
@@ -128,13 +115,14 @@ impl State {
             Event::Revert { task } => self.revert(*task),
             Event::Begin { task, call } => self.begin(live, line, *task, call),
             Event::Act { broadcast } => self.act_knowing(live, *broadcast),
-            Event::OpenFile {
-                hold,
-                file,
-                want,
-                fd,
-            } => self.open_file(*hold, *file, *want, *fd),
-            Event::CloseFile { fd } => self.close_file(*fd),
+            Event::Raw { task, call } => self.raw(*task, call),
+            Event::Init {
+                task,
+                process,
+                user,
+                group,
+                ns,
+            } => self.init(*task, *process, *user, *group, *ns, root_of(script, *ns)),
             Event::Spawn { task, child } => self.spawn(*task, *child),
             Event::Fork {
                 task,
@@ -142,8 +130,12 @@ impl State {
                 process,
             } => self.fork(*task, *child, *process),
             Event::Exit { task } => self.exit(*task),
-            Event::Dumpable { task, value } => Ok(self.set_dumpable(*task, *value)),
-            Event::Dumped { task } => Ok(self.dumped(*task)),
+            Event::Signal {
+                from,
+                hold,
+                to,
+                target,
+            } => Ok(self.signal(*from, *hold, *to, *target)),
             Event::Ptrace {
                 from,
                 hold,
@@ -151,11 +143,19 @@ impl State {
                 target,
                 mode,
             } => Ok(self.trace(script, *from, *hold, *to, *target, *mode)),
+            Event::Dumpable { task, value } => Ok(self.set_dumpable(*task, *value)),
+            Event::Dumped { task } => Ok(self.dumped(*task)),
+            Event::OpenFile {
+                hold,
+                file,
+                want,
+                fd,
+            } => self.open_file(*hold, *file, *want, *fd),
+            Event::CloseFile { fd } => self.close_file(*fd),
             Event::Chown { hold, file, .. }
             | Event::Chmod { hold, file, .. }
             | Event::SetAttr { hold, file, .. } => self.change_file(*hold, *file, event),
             Event::Stat { hold, file } => Ok(self.stat(*hold, *file)),
-            Event::Raw { task, call } => self.raw(*task, call),
             Event::Sweep => {
                 self.sweep();
                 Ok(Answer::Done)

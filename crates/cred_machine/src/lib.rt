@@ -6,18 +6,14 @@
 #![tactic(auto)]
 
 mod cached;
+mod call_events;
+mod file_events;
+mod label_events;
 mod machine;
-mod on_broadcasts;
-mod on_files;
-mod on_infos;
-mod on_labels;
-mod on_overrides;
-mod on_ptrace;
-mod on_raw;
-mod on_tasks;
 mod processes;
 mod slots;
 mod state;
+mod task_events;
 
 pub use cached::CachedState;
 pub use machine::Machine;

@@ -5,9 +5,9 @@ ghost use Rattle.cred_ids.specs.Limits.{TASKS};
 ghost use Rattle.cred_model.specs.Dumpable.{flag_in, with_process_flag};
 ghost use Rattle.cred_model.specs.Ends.{is_thread_of};
 
+use cred_dumpable::DumpableFlags;
 use cred_ids::NoMemory;
 use cred_plain::{Task, Tasks};
-use cred_ptrace::Dump;
 
 /// Adds the first thread of a process, which is dumpable or isn't.
 ///
@@ -16,20 +16,20 @@ use cred_ptrace::Dump;
 /// `NoMemory` if an allocation fails: both are as they were.
 pub fn begin_process(
     tasks: &mut Tasks,
-    dump: &mut Dump,
+    flags: &mut DumpableFlags,
     task: Task,
     dumpable: bool,
 ) -> Result<(), NoMemory>
     requires few { length tasks.old < TASKS }
-    requires unused { flag_in dump.old task.process ≡ None }
+    requires unused { flag_in flags.old task.process ≡ None }
     ensures tasks { OnOk result (tasks.new ≡ tasks.old ++ task ∷ []) }
-    ensures flags { OnOk result (dump.new ≡ with_process_flag dump.old task.process dumpable) }
+    ensures flags { OnOk result (flags.new ≡ with_process_flag flags.old task.process dumpable) }
     ensures same_tasks { OnErr result (tasks.new ≡ tasks.old) }
-    ensures same_flags { OnErr result (dump.new ≡ dump.old) }
+    ensures same_flags { OnErr result (flags.new ≡ flags.old) }
 {
     let process = task.process;
     tasks.push(task)?;
-    if let Err(err) = dump.start(process, dumpable) {
+    if let Err(err) = flags.start(process, dumpable) {
         tasks.pop();
         return Err(err);
     }
@@ -41,19 +41,19 @@ pub fn begin_process(
 /// # Errors
 ///
 /// `NoMemory` if an allocation fails: both are as they were.
-pub fn enter(tasks: &mut Tasks, dump: &mut Dump, task: Task) -> Result<(), NoMemory>
+pub fn enter(tasks: &mut Tasks, flags: &mut DumpableFlags, task: Task) -> Result<(), NoMemory>
     requires few { length tasks.old < TASKS }
-    requires own { is_some (flag_in dump.old task.process)
+    requires own { is_some (flag_in flags.old task.process)
         ≡ is_some (find (is_thread_of task.process) tasks.old) }
     ensures tasks { OnOk result (tasks.new ≡ tasks.old ++ task ∷ []) }
-    ensures flags { OnOk result (dump.new
-        ≡ (if is_some (find (is_thread_of task.process) tasks.old) then dump.old
-        else with_process_flag dump.old task.process true)) }
+    ensures flags { OnOk result (flags.new
+        ≡ (if is_some (find (is_thread_of task.process) tasks.old) then flags.old
+        else with_process_flag flags.old task.process true)) }
     ensures same_tasks { OnErr result (tasks.new ≡ tasks.old) }
-    ensures same_flags { OnErr result (dump.new ≡ dump.old) }
+    ensures same_flags { OnErr result (flags.new ≡ flags.old) }
 {
     if tasks.has_process(task.process) {
         return tasks.push(task);
     }
-    begin_process(tasks, dump, task, true)
+    begin_process(tasks, flags, task, true)
 }

@@ -21,7 +21,7 @@ use std::marker::Model;
 /// How many slots there are.
 const SLOTS: u32 = limits::SLOTS as u32;
 
-/// The slots that something stands in or that are kept, as 256 marks.
+/// The slots that something stands in or that are kept, as a mark for each slot.
 #[derive(Drop)]
 pub struct Marks {
     marks: Vec<bool>,

@@ -11,13 +11,12 @@ ghost use Rattle.cred_model.specs.Moves.{not_overridden};
 ghost use Rattle.cred_plain.specs.Creds.{seen_numbered};
 ghost use Rattle.cred_machine.specs.Kept.{KeepsReferred};
 
-use cred_attr::FileTable;
-use cred_declared::declared_files;
+use cred_declared::{FileTable, declared_files};
+use cred_dumpable::{DumpableFlags, differs};
 use cred_event::Side;
 use cred_ids::NoMemory;
 use cred_plain::labels::{hold_of, prepared_of};
-use cred_plain::{Cast, Creds, Hold, Numbered, OpenFile, Prepared, References, Task, Tasks};
-use cred_ptrace::{Dump, differs};
+use cred_plain::{Broadcast, Creds, Hold, Numbered, OpenFile, Prepared, References, Task, Tasks};
 use cred_record::Cred;
 use cred_script::Script;
 use std::alloc::Global;
@@ -29,13 +28,13 @@ use std::marker::Model;
 #[derive(Drop)]
 pub struct State {
     pub(crate) tasks: Tasks,
-    pub(crate) broadcasts: Vec<Cast>,
+    pub(crate) broadcasts: Vec<Broadcast>,
     pub(crate) files: Vec<OpenFile>,
     pub(crate) holds: Vec<Hold>,
     pub(crate) prepared: Vec<Prepared>,
     pub(crate) deferred: Vec<u64>,
-    pub(crate) dump: Dump,
-    pub(crate) infos: FileTable,
+    pub(crate) flags: DumpableFlags,
+    pub(crate) inodes: FileTable,
     pub(crate) creds: Creds,
     pub(crate) alloc: Global,
 }
@@ -52,8 +51,8 @@ impl Model for State {
       holds = s.holds.items;
       prepared = s.prepared.items;
       deferred = s.deferred.items;
-      dumpable = s.dump;
-      infos = s.infos;
+      dumpable = s.flags;
+      inodes = s.inodes;
       creds = s.creds.list;
     } };
 }
@@ -74,8 +73,8 @@ impl State {
             holds: Vec::new(alloc),
             prepared: Vec::new(alloc),
             deferred: Vec::new(alloc),
-            dump: Dump::new(alloc)?,
-            infos: declared_files(alloc, script)?,
+            flags: DumpableFlags::new(alloc)?,
+            inodes: declared_files(alloc, script)?,
             creds: Creds::new(alloc)?,
             alloc,
         })

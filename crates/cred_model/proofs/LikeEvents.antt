@@ -24,7 +24,7 @@ use Rattle.cred_event.specs.declared.answer.AbortCause.TheVariants as cause
 use Rattle.cred_event.specs.declared.event.Change.{Change}
 use Rattle.cred_event.specs.declared.event.Change.TheVariants.{Exec}
 use Rattle.cred_event.specs.declared.event.Event.{Event}
-use Rattle.cred_event.specs.declared.event.Mode.{Mode}
+use Rattle.cred_record.specs.declared.mode.PtraceMode.{PtraceMode}
 use Rattle.cred_event.specs.declared.event.Side.{Side}
 use Rattle.cred_event.specs.declared.event.Query.{Query}
 use Rattle.cred_event.specs.declared.event.Event.TheVariants.{Init, Take, TakeFile, Release, Ask, Signal, Prepare, Alter, Commit, Abort, Override, Revert}
@@ -35,7 +35,7 @@ use Rattle.cred_model.specs.Named.{change_files}
 use Rattle.cred_model.specs.State.{State, SealedCred, Task, Broadcast, OpenFile as Open, Hold, Prepared, Changed, ProcessFlag, Numbered, numbered, task_of}
 use Rattle.cred_model.specs.State.{broadcast_of, broadcast_in, begun_by, open_of, hold_of, prepared_of, held_by, info_of}
 use Rattle.cred_model.specs.Slots.{swept}
-use Rattle.cred_model.specs.Ptrace.{may_trace}
+use Rattle.cred_rules.specs.Ptrace.{may_trace}
 use Rattle.cred_model.specs.Dumpable.{is_dumpable, with_process_flag, set_flag, without_flag, differs, renewed, flags_by, flags_committed, flags_begun}
 use Rattle.cred_model.specs.Dumpable.{flags_left, flag_of_value}
 use Rattle.cred_model.specs.Answers.{checked}
@@ -51,7 +51,7 @@ use Rattle.cred_model.specs.FileEvents.{by_file}
 use Rattle.cred_model.specs.Step.{done}
 use Rattle.cred_model.specs.Like.{IsLike, AreAlike}
 use Rattle.cred_model.proofs.Lists.{All-remove, find_each, get_each}
-use Rattle.cred_model.proofs.Referred.{EachRef, each_updated, each_overriding, each_changed, each_tasks, each_broadcasts, each_flags, each_infos, each_files}
+use Rattle.cred_model.proofs.Referred.{EachRef, each_updated, each_overriding, each_changed, each_tasks, each_broadcasts, each_flags, each_inodes, each_files}
 use Rattle.cred_model.proofs.Referred.{each_holds, each_prepared, each_deferred, each_ended}
 use Rattle.cred_model.proofs.LikeReads.{with, Same, slots_of, each_same, same_numbered, same_credential, same_opener, same_held, numbered_by, credential_by}
 use Rattle.cred_model.proofs.LikeReads.{opener_by, held_by_each}
@@ -177,7 +177,7 @@ module _ (script : Script) (s : State) (cs : List SealedCred) (line : ℕ) (like
   alter_like label change =
       found OfBase _ _ (NoPrepared label) _ _ refl (find_each OfBase (λ p. p.label == label) s.prepared refs.bases)
       (λ p here. read _ _ (NoPrepared label) _ _ (same_numbered s.creds cs p.base here)
-      (λ base. tested (by_change (info_of s.infos (change_files change)) (chain_of script base.cred.ns) base.cred change) _ _
+      (λ base. tested (by_change (info_of s.inodes (change_files change)) (chain_of script base.cred.ns) base.cred change) _ _
       (λ made.
       let to : Changed = record { change = change; cred = made.cred; gains = made.gains } in
       leaves made.answer (altered s label to) refl
@@ -304,7 +304,7 @@ module _ (script : Script) (s : State) (cs : List SealedCred) (line : ℕ) (like
   open_like hold place asked fd =
       found OfCred _ _ (NoHold hold) _ _ (same_held s cs hold like) (held_by_each s Here hold refs)
       (λ held here. tested (none_or (open_of s fd) _) _ _
-      (λ new. tested (unless_refused (checked held.cred (info_of s.infos (place ∷ [])) asked)) _ _
+      (λ new. tested (unless_refused (checked held.cred (info_of s.inodes (place ∷ [])) asked)) _ _
       (λ may. tested (fewer_or (length s.files) OPEN_FILES _) _ _
       (λ few. leaves Done (record s { files = s.files ++ record { fd = fd; opener = held.number; file = place } ∷ [] }) refl
       (each_files refs _ (All-push OfFile s.files _ refs.openers here))))))
@@ -448,7 +448,7 @@ module _ (script : Script) (s : State) (cs : List SealedCred) (line : ℕ) (like
   pub dumped_like : (task : ℕ) → DoneAlike (Dumped task)
   dumped_like task = tested (ok_or (task_of s task) _) _ _ (λ owner. record { answers = refl; states = like })
 
-  pub ptrace_like : (from hold to target : ℕ) (mode : Mode) → DoneAlike (Ptrace from hold to target mode)
+  pub ptrace_like : (from hold to target : ℕ) (mode : PtraceMode) → DoneAlike (Ptrace from hold to target mode)
   ptrace_like from hold to target mode =
       tested (ok_or (task_of s from) _) _ _
       (λ sender. tested (ok_or (task_of s to) _) _ _
@@ -469,9 +469,9 @@ module _ (script : Script) (s : State) (cs : List SealedCred) (line : ℕ) (like
       → BothAre (by_file s hold place rule) (by_file (with s cs) hold place rule)
   file_like hold place rule =
       read _ _ (NoHold hold) _ _ (same_held s cs hold like)
-      (λ held. tested (ok_or (slice_get s.infos place) (NoHold hold)) _ _
+      (λ held. tested (ok_or (slice_get s.inodes place) (NoHold hold)) _ _
       (λ old. tested (by_rule (rule held.cred old)) _ _
-      (λ new. leaves Done (record s { infos = slice_set s.infos place new }) refl (each_infos refs _))))
+      (λ new. leaves Done (record s { inodes = slice_set s.inodes place new }) refl (each_inodes refs _))))
 
   pub chown_like : (hold place : ℕ) (owner group : Arg) → DoneAlike (Chown hold place owner group)
   chown_like hold place owner group = file_like hold place (λ c file. chown c file owner group)
@@ -485,7 +485,7 @@ module _ (script : Script) (s : State) (cs : List SealedCred) (line : ℕ) (like
   pub stat_like : (hold place : ℕ) → DoneAlike (Stat hold place)
   stat_like hold place =
       read _ _ (NoHold hold) _ _ (same_held s cs hold like)
-      (λ held. tested (ok_or (slice_get s.infos place) (NoHold hold)) _ _
+      (λ held. tested (ok_or (slice_get s.inodes place) (NoHold hold)) _ _
       (λ file. record { answers = refl; states = like }))
 
   -- ---- a call of one thread alone

@@ -74,7 +74,7 @@ like_with t cs slots each = record {
   prepared = refl;
   deferred = refl;
   dumpable = refl;
-  infos = refl;
+  inodes = refl;
   slots = slots;
   creds = refs_each (Same t.creds cs) t each;
 }
@@ -90,7 +90,7 @@ like_broadcasts f like = record {
   prepared = like.prepared;
   deferred = like.deferred;
   dumpable = like.dumpable;
-  infos = like.infos;
+  inodes = like.inodes;
   slots = like.slots;
   creds = like.creds;
 }
@@ -106,7 +106,7 @@ like_flags flags like = record {
   prepared = like.prepared;
   deferred = like.deferred;
   dumpable = refl;
-  infos = like.infos;
+  inodes = like.inodes;
   slots = like.slots;
   creds = like.creds;
 }
@@ -134,7 +134,7 @@ like_sealed answer t bs cs x same each =
         prepared = refl;
         deferred = refl;
         dumpable = refl;
-        infos = refl;
+        inodes = refl;
         slots = slots_past bs cs x same;
         creds = All-weaker (Same bs cs) (Same (bs ++ x ∷ []) (cs ++ x ∷ [])) (λ n. same_past bs cs n x long)
             (refs (t (length bs))) (refs_each (Same bs cs) (t (length bs)) each);

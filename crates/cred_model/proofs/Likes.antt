@@ -23,7 +23,7 @@ like_self s =
       prepared = refl;
       deferred = refl;
       dumpable = refl;
-      infos = refl;
+      inodes = refl;
       slots = refl;
       creds = λ k d lt. refl;
     }
@@ -33,10 +33,10 @@ refs_same a b like =
     ap (λ ts. refs (record a { tasks = ts })) like.tasks
     ∙ ap (λ fs. refs (record a { tasks = b.tasks; files = fs })) like.files
     ∙ ap (λ hs. refs (record a { tasks = b.tasks; files = b.files; holds = hs })) like.holds
-    ∙ ap (λ ps. refs (record b { prepared = ps; deferred = a.deferred; dumpable = a.dumpable; infos = a.infos; creds = a.creds })) like.prepared
-    ∙ ap (λ ds. refs (record b { deferred = ds; dumpable = a.dumpable; infos = a.infos })) like.deferred
-    ∙ ap (λ fs. refs (record b { dumpable = fs; infos = a.infos })) like.dumpable
-    ∙ ap (λ is. refs (record b { infos = is })) like.infos
+    ∙ ap (λ ps. refs (record b { prepared = ps; deferred = a.deferred; dumpable = a.dumpable; inodes = a.inodes; creds = a.creds })) like.prepared
+    ∙ ap (λ ds. refs (record b { deferred = ds; dumpable = a.dumpable; inodes = a.inodes })) like.deferred
+    ∙ ap (λ fs. refs (record b { dumpable = fs; inodes = a.inodes })) like.dumpable
+    ∙ ap (λ is. refs (record b { inodes = is })) like.inodes
 
 pub like_sym : (a b : State) → IsLike a b → IsLike b a
 like_sym a b like = record {
@@ -47,7 +47,7 @@ like_sym a b like = record {
   prepared = sym like.prepared;
   deferred = sym like.deferred;
   dumpable = sym like.dumpable;
-  infos = sym like.infos;
+  inodes = sym like.inodes;
   slots = sym like.slots;
   creds = subst (All (λ n. slice_get b.creds n ≡ slice_get a.creds n)) (refs_same a b like) (λ k d lt. sym (like.creds k d lt));
 }
@@ -64,7 +64,7 @@ like_trans a b c first second =
       prepared = first.prepared ∙ second.prepared;
       deferred = first.deferred ∙ second.deferred;
       dumpable = first.dumpable ∙ second.dumpable;
-      infos = first.infos ∙ second.infos;
+      inodes = first.inodes ∙ second.inodes;
       slots = first.slots ∙ second.slots;
       creds = λ k d lt. first.creds k d lt ∙ on k d lt;
     }
@@ -78,11 +78,11 @@ like_step script a b line event like =
     = ap (λ ts. record a { tasks = ts; creds = b.creds }) like.tasks
     ∙ ap (λ xs. record a { tasks = b.tasks; broadcasts = xs; creds = b.creds }) like.broadcasts
     ∙ ap (λ fs. record a { tasks = b.tasks; broadcasts = b.broadcasts; files = fs; creds = b.creds }) like.files
-    ∙ ap (λ hs. record b { holds = hs; prepared = a.prepared; deferred = a.deferred; dumpable = a.dumpable; infos = a.infos }) like.holds
-    ∙ ap (λ ps. record b { prepared = ps; deferred = a.deferred; dumpable = a.dumpable; infos = a.infos }) like.prepared
-    ∙ ap (λ ds. record b { deferred = ds; dumpable = a.dumpable; infos = a.infos }) like.deferred
-    ∙ ap (λ fs. record b { dumpable = fs; infos = a.infos }) like.dumpable
-    ∙ ap (λ is. record b { infos = is }) like.infos in
+    ∙ ap (λ hs. record b { holds = hs; prepared = a.prepared; deferred = a.deferred; dumpable = a.dumpable; inodes = a.inodes }) like.holds
+    ∙ ap (λ ps. record b { prepared = ps; deferred = a.deferred; dumpable = a.dumpable; inodes = a.inodes }) like.prepared
+    ∙ ap (λ ds. record b { deferred = ds; dumpable = a.dumpable; inodes = a.inodes }) like.deferred
+    ∙ ap (λ fs. record b { dumpable = fs; inodes = a.inodes }) like.dumpable
+    ∙ ap (λ is. record b { inodes = is }) like.inodes in
     let with_creds : IsLike a (record a { creds = b.creds })
     = record {
       tasks = refl;
@@ -92,7 +92,7 @@ like_step script a b line event like =
       prepared = refl;
       deferred = refl;
       dumpable = refl;
-      infos = refl;
+      inodes = refl;
       slots = like.slots;
       creds = like.creds;
     } in

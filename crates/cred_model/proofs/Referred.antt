@@ -121,8 +121,8 @@ each_broadcasts each broadcasts =
     }
 
 -- nor do the files
-pub each_infos : {P : ℕ → Type 0} {s : State} → EachRef P s → (infos : List File) → EachRef P (record s { infos = infos })
-each_infos each infos =
+pub each_inodes : {P : ℕ → Type 0} {s : State} → EachRef P s → (inodes : List File) → EachRef P (record s { inodes = inodes })
+each_inodes each inodes =
     record {
       currents = each.currents;
       overrides = each.overrides;

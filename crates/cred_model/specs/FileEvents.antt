@@ -24,7 +24,7 @@ abbrev pub by_open : State → (hold place : ℕ) → Want → (fd : ℕ) → Re
 by_open s hold place asked fd = do
   held ← ok_or (held_by s hold) (NoHold hold)
   new ← none_or (open_of s fd) (Exists named.File fd)
-  may ← unless_refused (checked held.cred (info_of s.infos (place ∷ [])) asked)
+  may ← unless_refused (checked held.cred (info_of s.inodes (place ∷ [])) asked)
   few ← fewer_or (length s.files) OPEN_FILES (TooMany counted.Files)
   Ok (
     Done,
@@ -45,13 +45,13 @@ abbrev pub by_file : State → ℕ → ℕ → (Credential → File → Result F
     → Result (Answer × State) Answer
 by_file s hold place rule = do
   held ← ok_or (held_by s hold) (NoHold hold)
-  old ← ok_or (slice_get s.infos place) (NoHold hold)
+  old ← ok_or (slice_get s.inodes place) (NoHold hold)
   new ← by_rule (rule held.cred old)
-  Ok (Done, record s { infos = slice_set s.infos place new })
+  Ok (Done, record s { inodes = slice_set s.inodes place new })
 
 -- A task that holds a credential asks how a file stands (stat(2)).
 abbrev pub by_stat : State → ℕ → ℕ → Result (Answer × State) Answer
 by_stat s hold place = do
   held ← ok_or (held_by s hold) (NoHold hold)
-  file ← ok_or (slice_get s.infos place) (NoHold hold)
+  file ← ok_or (slice_get s.inodes place) (NoHold hold)
   Ok (Told (told.File file.owner file.group file.mode (is_some file.attr)), s)

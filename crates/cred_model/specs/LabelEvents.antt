@@ -64,7 +64,7 @@ by_release s label = do
 abbrev pub by_ask : State → ℕ → Query → Result (Answer × State) Answer
 by_ask s label query = do
   held ← ok_or (held_by s label) (NoHold label)
-  Ok (reply (info_of s.infos (query_files query)) held.cred query, s)
+  Ok (reply (info_of s.inodes (query_files query)) held.cred query, s)
 
 -- a label prepares a new credential for a task, based on what another holds
 abbrev pub by_prepare : State → (label task hold : ℕ) → Result (Answer × State) Answer
@@ -91,7 +91,7 @@ abbrev pub by_alter : Script → State → ℕ → Change → Result (Answer × 
 by_alter script s label change = do
   p ← ok_or (prepared_of s label) (NoPrepared label)
   base ← ok_or (numbered s.creds p.base) (NoPrepared label)
-  made ← by_change (info_of s.infos (change_files change)) (chain_of script base.cred.ns) base.cred
+  made ← by_change (info_of s.inodes (change_files change)) (chain_of script base.cred.ns) base.cred
       change
   Ok (
     made.answer,

@@ -4,7 +4,6 @@ pub mod FileChanges
 pub mod State
 pub mod Slots
 pub mod Ends
-pub mod Ptrace
 pub mod Dumpable
 pub mod Broadcasts
 pub mod Answers

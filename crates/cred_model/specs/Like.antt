@@ -17,7 +17,7 @@ pub record IsLike (a b : State) : Type 0 where
   pub prepared : a.prepared ≡ b.prepared
   pub deferred : a.deferred ≡ b.deferred
   pub dumpable : a.dumpable ≡ b.dumpable
-  pub infos : a.infos ≡ b.infos
+  pub inodes : a.inodes ≡ b.inodes
   pub slots : map (λ sealed. sealed.slot) a.creds ≡ map (λ sealed. sealed.slot) b.creds
   pub creds : All (λ n. slice_get a.creds n ≡ slice_get b.creds n) (refs a)
 

@@ -32,8 +32,8 @@ pub record Script : Type 0 where
   pub lines : List Line
 
 -- what checks and execve see of the declared files, each in its order
-abbrev pub infos_of : Script → List File
-infos_of script = map (λ file. file.info) script.files
+abbrev pub inodes_of : Script → List File
+inodes_of script = map (λ file. file.info) script.files
 
 -- Namespace 0 is the initial one. Its root id is 0, and it has no parent.
 abbrev pub INITIAL_ROOT : ℕ

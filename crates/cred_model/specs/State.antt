@@ -9,7 +9,7 @@ use Rattle.cred_record.specs.declared.id_call.IdCall.{IdCall}
 use Rattle.cred_event.specs.declared.event.Change.{Change}
 use Rattle.cred_event.specs.declared.event.Side.{Side}
 use Rattle.cred_event.specs.declared.event.Side.TheVariants.{Subjective, Objective}
-use Rattle.cred_model.specs.Script.{Script, infos_of}
+use Rattle.cred_model.specs.Script.{Script, inodes_of}
 
 -- A task (a thread) belongs to a process, and has the number of its current credential and those of
 -- the credentials that it acts with in its place, the newest first.
@@ -80,7 +80,7 @@ pub record State : Type 0 where
   pub prepared : List Prepared
   pub deferred : List ℕ
   pub dumpable : List ProcessFlag
-  pub infos : List File
+  pub inodes : List File
   pub creds : List SealedCred
 
 -- the state before a script's first event: its files are as it declares them
@@ -93,14 +93,14 @@ opening script = record {
   prepared = [];
   deferred = [];
   dumpable = [];
-  infos = infos_of script;
+  inodes = inodes_of script;
   creds = [];
 }
 
 -- the file that an event names, by its place, as it stands in this list; none where it names none
 abbrev pub info_of : List File → List ℕ → Option File
-info_of infos [] = None
-info_of infos (place ∷ places) = slice_get infos place
+info_of inodes [] = None
+info_of inodes (place ∷ places) = slice_get inodes place
 
 -- the task of this number, if it is alive
 abbrev pub task_of : State → ℕ → Option Task

@@ -6,7 +6,7 @@ use Rattle.cred_ids.specs.Limits.{TASKS}
 use Rattle.cred_ids.specs.Tests.{◌>>=◌}
 use Rattle.cred_record.specs.Credential.{first_credential}
 use Rattle.cred_rules.specs.Access.{may_signal}
-use Rattle.cred_event.specs.declared.event.Mode.{Mode}
+use Rattle.cred_record.specs.declared.mode.PtraceMode.{PtraceMode}
 use Rattle.cred_event.specs.declared.answer.Answer.{Answer}
 use Rattle.cred_event.specs.declared.answer.Answer.TheVariants.{Done, Sealed, Told, Eperm, Einval}
 use Rattle.cred_event.specs.declared.answer.Answer.TheVariants.{NoTask, NoHold, Exists, TooMany}
@@ -17,7 +17,7 @@ use Rattle.cred_model.specs.Script.{Script, reaches}
 use Rattle.cred_model.specs.State.{State, task_of, broadcast_in, begun_by, numbered, held_by}
 use Rattle.cred_model.specs.Ends.{is_task, is_thread_of, ended}
 use Rattle.cred_model.specs.Broadcasts.{not_busy, waits_no_more, joined}
-use Rattle.cred_model.specs.Ptrace.{may_trace}
+use Rattle.cred_rules.specs.Ptrace.{may_trace}
 use Rattle.cred_model.specs.Dumpable.{is_dumpable, with_process_flag, set_flag, flags_begun}
 use Rattle.cred_model.specs.Dumpable.{flags_left, flag_of_value}
 use Rattle.cred_model.specs.Moves.{none_or, fewer_or, not_overridden, in_slot, table_full}
@@ -113,7 +113,7 @@ by_signal s from hold to target = do
 -- A task asks to look into another: its credential and the target's decide, whether both are of one
 -- process, and whether the target's process is dumpable (ptrace(2), "Ptrace access mode checking").
 abbrev pub by_ptrace :
-    Script → State → (from hold to target : ℕ) → Mode → Result (Answer × State) Answer
+    Script → State → (from hold to target : ℕ) → PtraceMode → Result (Answer × State) Answer
 by_ptrace script s from hold to target mode = do
   sender ← ok_or (task_of s from) (NoTask from)
   receiver ← ok_or (task_of s to) (NoTask to)

@@ -4,7 +4,7 @@ use Rattle.std.proofs.lemmas.List.{get_or-take}
 use Rattle.cred_record.specs.Credential.{Credential}
 use Rattle.cred_record.specs.Words.{are_words, credential_in, group_count, unpaired, words_of, IsCredential}
 use Rattle.cred_record.specs.declared.layout.TheConstants.{FLAGS, GROUPS}
-use Rattle.cred_record.proofs.Halves.{joined}
+use Rattle.cred_record.proofs.HalfWords.{joined}
 use Rattle.cred_record.proofs.WordLemmas.{count-is, words-again, words-are, words-test}
 
 pub groups-none : (ws : List ℕ) → group_count (slice_index ws FLAGS) ≡ 0 → (credential_in ws).groups ≡ []

@@ -8,7 +8,8 @@ mod writing;
 
 pub use heads::Head;
 pub use reading::{
-    group_count, group_in, ids_in, known_group, known_head, known_ids_in, of_words, secure_bits,
+    group_count, group_from_valid, group_in, head_from_valid, ids_from_valid_words, ids_in,
+    of_words, secure_bits,
 };
 pub use writing::{
     flags_with, group_word, head, id_words, to_words, word_of_groups, words_of_groups,

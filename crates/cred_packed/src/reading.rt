@@ -46,15 +46,15 @@ pub fn ids_in(first: u64, second: u64) -> Option<Ids4>
 
 /// The ids in two words that are known to have them, as `ids_in` reads them.
 #[inline(always)]
-pub fn known_ids_in(first: u64, second: u64) -> Ids4
+pub fn ids_from_valid_words(first: u64, second: u64) -> Ids4
     requires { are_ids (ids_of first second) ≡ true }
     ensures { result ≡ ids_of first second }
 {
     Ids4 {
-        real: Id::known(low(first)),
-        effective: Id::known(high(first)),
-        saved: Id::known(low(second)),
-        fs: Id::known(high(second)),
+        real: Id::from_valid(low(first)),
+        effective: Id::from_valid(high(first)),
+        saved: Id::from_valid(low(second)),
+        fs: Id::from_valid(high(second)),
     }
 }
 
@@ -86,11 +86,11 @@ pub fn group_in(word: u64, place: usize) -> Option<Id>
 
 /// The group at a place that is known to have one, by the word where it stands with another.
 #[inline(always)]
-pub fn known_group(word: u64, place: usize) -> Id
+pub fn group_from_valid(word: u64, place: usize) -> Id
     requires { IsId (half word place) }
     ensures { result ≡ half word place }
 {
-    Id::known(half(word, place))
+    Id::from_valid(half(word, place))
 }
 
 /// The first `count` ids in the words of groups. `None` where one of these numbers is no id.
@@ -133,7 +133,7 @@ fn groups_in(alloc: Global, words: &[u64; WORDS]) -> Result<Option<Groups>, NoMe
 
 /// The five sets of a credential.
 #[derive(Clone, Copy)]
-struct Sets {
+struct FiveSets {
     perm: CapSet,
     inh: CapSet,
     eff: CapSet,
@@ -142,18 +142,18 @@ struct Sets {
 }
 
 /// Whether the sets are those of a credential (capabilities(7), "Thread capability sets").
-fn are_valid(sets: &Sets) -> bool
+fn are_valid(sets: &FiveSets) -> bool
     ensures { IsTrue result ↔ AreValidSets sets.now.perm sets.now.inh sets.now.eff sets.now.amb }
 {
     sets.eff.within(&sets.perm) && sets.amb.within(&sets.perm) && sets.amb.within(&sets.inh)
 }
 
 /// The sets. `None` only where the words before those of groups are no credential's.
-fn sets_in(head: &[u64; GROUPS]) -> Option<Sets>
+fn sets_in(head: &[u64; GROUPS]) -> Option<FiveSets>
     ensures some { IfSome result (λ s. AreSetsOf head.now s.perm s.inh s.eff s.bound s.amb) }
     ensures none { IfNone result (¬ (IsCredential (credential_in head.now))) }
 {
-    let sets = Sets {
+    let sets = FiveSets {
         perm: CapSet::of_bits(head[PERMITTED])?,
         inh: CapSet::of_bits(head[INHERITABLE])?,
         eff: CapSet::of_bits(head[EFFECTIVE])?,
@@ -258,22 +258,22 @@ pub fn of_words(alloc: Global, words: &[u64; WORDS]) -> Result<Option<Cred>, NoM
 
 /// The credential of these groups whose words before those of groups are given, and are known to be
 /// a credential's.
-pub fn known_head(head: &[u64; GROUPS], groups: Groups) -> Cred
+pub fn head_from_valid(head: &[u64; GROUPS], groups: Groups) -> Cred
     requires { IsCredential (credential_in head.now) }
     ensures { result ≡ record (credential_in head.now) { groups = groups } }
 {
     Cred {
-        uid: known_ids_in(head[USER], head[SAVED_USER]),
-        gid: known_ids_in(head[GROUP], head[SAVED_GROUP]),
+        uid: ids_from_valid_words(head[USER], head[SAVED_USER]),
+        gid: ids_from_valid_words(head[GROUP], head[SAVED_GROUP]),
         groups,
-        perm: CapSet::known(head[PERMITTED]),
-        inh: CapSet::known(head[INHERITABLE]),
-        eff: CapSet::known(head[EFFECTIVE]),
-        bound: CapSet::known(head[BOUNDING]),
-        amb: CapSet::known(head[AMBIENT]),
+        perm: CapSet::from_valid(head[PERMITTED]),
+        inh: CapSet::from_valid(head[INHERITABLE]),
+        eff: CapSet::from_valid(head[EFFECTIVE]),
+        bound: CapSet::from_valid(head[BOUNDING]),
+        amb: CapSet::from_valid(head[AMBIENT]),
         bits: secure_bits(head[FLAGS]),
         nnp: head[FLAGS] >> 8 & 1 == 1,
         ns: head[NAMESPACE] as u32,
-        root: Id::known(head[ROOT] as u32),
+        root: Id::from_valid(head[ROOT] as u32),
     }
 }

@@ -4,7 +4,7 @@
 //! They have credentials by number, tasks, labels, broadcasts, open files, and what refers to what.
 #![tactic(auto)]
 
-pub mod casts;
+pub mod broadcasts;
 mod creds;
 pub mod files;
 pub mod labels;
@@ -12,7 +12,7 @@ mod one_task;
 mod references;
 mod tasks;
 
-pub use casts::Cast;
+pub use broadcasts::Broadcast;
 pub use creds::{Creds, Numbered};
 pub use files::OpenFile;
 pub use labels::{Changed, Hold, Prepared};

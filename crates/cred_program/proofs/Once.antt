@@ -1,7 +1,7 @@
 -- The process ends with the number of the status that its one run had.
 use Rattle.std.proofs.Common.{◌≡◌, ℕ, Bool, List}
-use Rattle.cred_said.specs.Statuses.{code_of}
-use Rattle.cred_said.specs.declared.status.Status.{Status}
+use Rattle.cred_output.specs.Statuses.{code_of}
+use Rattle.cred_output.specs.declared.status.Status.{Status}
 use Rattle.cred_program.specs.Runs.{EndsWith, RunsOnce, Stream}
 
 pub ends : (words : List (List ℕ)) (answer : Status) (code : ℕ) (source sink : Stream) (handed : Bool) (unread unwritten : Type 0) → code ≡ code_of answer

@@ -1,9 +1,9 @@
 -- A source that is left as it was.
 use Rattle.std.proofs.Common.{◌≡◌, ℕ, List, [], Option, refl, arith}
 use Rattle.std.proofs.KnownBytes.{Consumes-nil}
-use Rattle.cred_said.specs.Leaves.{IsReading}
-use Rattle.cred_said.specs.declared.status.Status.{Status}
-use Rattle.cred_said.specs.declared.status.Status.TheVariants as status
+use Rattle.cred_output.specs.Leaves.{IsReading}
+use Rattle.cred_output.specs.declared.status.Status.{Status}
+use Rattle.cred_output.specs.declared.status.Status.TheVariants as status
 
 pub unread : (limit : ℕ) (answer : Status) (left : Option (List ℕ)) (faults : ℕ) → (answer ≡ status.ReadFault → ⊥)
     → IsReading limit answer left left faults faults

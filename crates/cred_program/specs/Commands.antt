@@ -5,8 +5,8 @@ use Rattle.cred_io.specs.Ends.{AppendsPrefix}
 use Rattle.std.specs.declared.option.Option.{Option}
 use Rattle.cred_ids.specs.Limits.{AUDIT_LIMIT, BYTE_LIMIT}
 use Rattle.cred_commands.specs.Summing.{IsCount}
-use Rattle.cred_said.specs.declared.status.Status.{Status}
-use Rattle.cred_said.specs.declared.status.Status.TheVariants as status
+use Rattle.cred_output.specs.declared.status.Status.{Status}
+use Rattle.cred_output.specs.declared.status.Status.TheVariants as status
 use Rattle.cred_program.specs.declared.words.Command.{Command}
 use Rattle.cred_program.specs.declared.words.Command.TheVariants.{Audit, Gen}
 

@@ -6,11 +6,11 @@ use Rattle.cred_inspect.specs.Auditing.{LeavesVerdict}
 use Rattle.cred_inspect.specs.Decoding.{LeavesAttribute}
 use Rattle.cred_inspect.specs.Encoding.{LeavesText}
 use Rattle.cred_inspect.specs.Records.{LeavesRecord}
-use Rattle.cred_said.specs.Leaves.{IsReading, IsWriting, LeavesReport}
-use Rattle.cred_said.specs.Statuses.{code_of}
+use Rattle.cred_output.specs.Leaves.{IsReading, IsWriting, LeavesReport}
+use Rattle.cred_output.specs.Statuses.{code_of}
 use Rattle.cred_commands.specs.Summing.{LeavesSummary}
-use Rattle.cred_said.specs.declared.status.Status.{Status}
-use Rattle.cred_said.specs.declared.status.Status.TheVariants as status
+use Rattle.cred_output.specs.declared.status.Status.{Status}
+use Rattle.cred_output.specs.declared.status.Status.TheVariants as status
 use Rattle.cred_program.specs.Commands.{LeavesUsage, limit_of}
 use Rattle.cred_program.specs.Words.{command_of}
 use Rattle.cred_program.specs.declared.words.Command.TheVariants as command

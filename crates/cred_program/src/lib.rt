@@ -5,7 +5,7 @@ mod process;
 mod program;
 mod words;
 
+pub use cred_output::Status;
 pub use cred_runs::NoGate;
-pub use cred_said::Status;
 pub use process::exit_code;
 pub use program::credtrace;

@@ -1,14 +1,14 @@
 //! What the process does with its words and its two streams: one run of the program.
 ghost use Rattle.std.specs.Prelude.{◌≡◌, IfOk, OnErr};
-ghost use Rattle.cred_said.specs.Statuses.{code_of};
+ghost use Rattle.cred_output.specs.Statuses.{code_of};
 ghost use Rattle.cred_program.specs.Runs.{EndsWith};
 ghost use Rattle.cred_program.specs.Words.{texts};
 
 use crate::program::credtrace;
 use cred_ids::NoMemory;
 use cred_io::{Sink, Source};
+use cred_output::Status;
 use cred_runs::Gate;
-use cred_said::Status;
 use std::alloc::Global;
 use std::sync::Wait;
 use std::thread::Threads;
@@ -37,7 +37,7 @@ pub fn exit_code<R: Threads + Wait + Sync, S: Source, K: Sink, G: Gate + Sync>(
           faults = K.faults sink.old;
           now = K.faults sink.new;
         }
-        (K.handed_on sink.new) (source.new ≡ source.old) (sink.new ≡ sink.old)) }
+        (K.flushed sink.new) (source.new ≡ source.old) (sink.new ≡ sink.old)) }
     ensures no_words { OnErr words.now ((result ≡ code_of Status.Memory)
         × (source.new ≡ source.old) × (sink.new ≡ sink.old)) }
 {

@@ -5,7 +5,7 @@ ghost use Rattle.cred_inspect.specs.Auditing.{LeavesVerdict};
 ghost use Rattle.cred_inspect.specs.Decoding.{LeavesAttribute};
 ghost use Rattle.cred_inspect.specs.Encoding.{LeavesText};
 ghost use Rattle.cred_inspect.specs.Records.{LeavesRecord};
-ghost use Rattle.cred_said.specs.Leaves.{IsReading, IsWriting, LeavesReport};
+ghost use Rattle.cred_output.specs.Leaves.{IsReading, IsWriting, LeavesReport};
 ghost use Rattle.cred_commands.specs.Summing.{LeavesSummary};
 ghost use Rattle.cred_program.specs.Commands.{LeavesUsage, limit_of};
 ghost use Rattle.cred_program.specs.Words.{command_of, texts};
@@ -15,8 +15,8 @@ use cred_commands::{read_and_run, run_gen};
 use cred_ids::NoMemory;
 use cred_inspect::{read_and_audit, run_capdata, run_decode, run_encode};
 use cred_io::{Sink, Source};
+use cred_output::{Status, write_short_text};
 use cred_runs::{Gate, read_and_lanes};
-use cred_said::{Status, tell};
 use std::alloc::Global;
 use std::sync::Wait;
 use std::thread::Threads;
@@ -33,7 +33,7 @@ const USAGE: &str = "usage: credtrace run|lanes|audit|gen N|decode HEX|encode TE
 /// alone it starts threads, and waits for them; each calls the gate before, in and after each
 /// decision that it makes.
 ///
-/// `Done`, `NotLegal`, `Bad` and `Usage` come with the whole text, handed on, and with no fault.
+/// `Done`, `NotLegal`, `Bad` and `Usage` come with the whole text, flushed, and with no fault.
 /// The source's count of faults rises for `ReadFault` alone, and the sink's for `WriteFault` alone.
 /// `Memory` comes where an allocation failed, one of the sink's among them; the source may then
 /// have been read in part.
@@ -82,11 +82,11 @@ pub fn credtrace<R: Threads + Wait + Sync, S: Source, K: Sink, G: Gate + Sync>(
         × LeavesUsage result (K.written sink.old) (K.written sink.new) }
 
     // Whatever the words are: each fault has its cause and its answer, one byte above the limit is
-    // read at most, a whole text is handed on, and nothing is written where the reading failed or
+    // read at most, a whole text is flushed, and nothing is written where the reading failed or
     // there was too much to read.
     ensures reading { IsReading (limit_of (command_of (texts words.now))) result
         (S.left source.old) (S.left source.new) (S.faults source.old) (S.faults source.new) }
-    ensures writing { IsWriting result (K.handed_on sink.new)
+    ensures writing { IsWriting result (K.flushed sink.new)
         (K.faults sink.old) (K.faults sink.new) }
     ensures silent { (result ≡ Status.ReadFault) ⊎ (result ≡ Status.TooLarge)
         → sink.new ≡ sink.old }
@@ -99,16 +99,16 @@ pub fn credtrace<R: Threads + Wait + Sync, S: Source, K: Sink, G: Gate + Sync>(
         Ok(Some(Command::Decode(bytes))) => run_decode(alloc, bytes.items(), sink),
         Ok(Some(Command::Encode(text))) => run_encode(alloc, text.items(), sink),
         Ok(Some(Command::Capdata(bytes))) => run_capdata(alloc, bytes.items(), sink),
-        Ok(None) => tell_usage(sink),
+        Ok(None) => write_usage(sink),
         Err(NoMemory) => Status::Memory,
     }
 }
 
 /// Writes the usage line.
-fn tell_usage<K: Sink>(sink: &mut K) -> Status
+fn write_usage<K: Sink>(sink: &mut K) -> Status
     ensures usage { LeavesUsage result (K.written sink.old) (K.written sink.new) }
-    ensures writing { IsWriting result (K.handed_on sink.new)
+    ensures writing { IsWriting result (K.flushed sink.new)
         (K.faults sink.old) (K.faults sink.new) }
 {
-    tell(sink, Status::Usage, USAGE.as_bytes())
+    write_short_text(sink, Status::Usage, USAGE.as_bytes())
 }

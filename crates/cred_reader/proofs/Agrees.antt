@@ -13,13 +13,13 @@ use Rattle.cred_event.specs.declared.event.Query.{Query}
 use Rattle.cred_event.specs.declared.event.Query.TheVariants as query
 use Rattle.cred_event.specs.declared.event.Event.{Event}
 use Rattle.cred_event.specs.declared.event.Event.TheVariants as event
-use Rattle.cred_reader.specs.declared.answers.Tells.{Tells}
-use Rattle.cred_reader.specs.declared.answers.Tells.TheVariants as tells
+use Rattle.cred_reader.specs.declared.answers.AnswerForm.{AnswerForm}
+use Rattle.cred_reader.specs.declared.answers.AnswerForm.TheVariants as tells
 use Rattle.cred_reader.specs.Answers.{told_by}
 use Rattle.cred_answers.specs.CallRows as call_rows
 use Rattle.cred_answers.specs.Rows as rows
 
-abbrev pub same : Tells → Tells → Bool
+abbrev pub same : AnswerForm → AnswerForm → Bool
 same tells.Nothing tells.Nothing = true
 same tells.Ids tells.Ids = true
 same tells.Caps tells.Caps = true
@@ -30,7 +30,7 @@ same tells.File tells.File = true
 same told other = false
 
 -- A value that is told is read where it is told, and a refusal is read whatever is told.
-abbrev pub agrees : Tells → Answer → Bool
+abbrev pub agrees : AnswerForm → Answer → Bool
 agrees told Done = same told tells.Nothing
 agrees told (Sealed cred slot) = same told tells.Nothing
 agrees told (Kept slot) = same told tells.Nothing

@@ -1,7 +1,8 @@
 -- Answers that were printed, read back.
-use Rattle.std.proofs.Common.{◌≡◌, ℕ, ◌<◌, ◌^◌, Bool, true, false, List, [], ◌∷◌, ◌++◌, map, codes, refl, sym, ap, subst, append_assoc, decimal, arith}
+use Rattle.std.proofs.Common.{◌≡◌, ℕ, ◌≤◌, Bool, true, false, List, [], ◌∷◌, ◌++◌, map, codes, refl, sym, ap, subst, append_assoc, decimal, arith}
 use Rattle.std.proofs.lemmas.List.{append-nil}
 use Rattle.cred_ids.specs.declared.id.Ids4.{Ids4}
+use Rattle.cred_caps.specs.Secure.{LAST_BITS}
 use Rattle.cred_record.specs.declared.gains.Gains.{Gains}
 use Rattle.cred_event.specs.declared.answer.Named.TheVariants as named
 use Rattle.cred_event.specs.declared.answer.Counted.TheVariants as counted
@@ -11,8 +12,8 @@ use Rattle.cred_event.specs.declared.answer.Answer.{Answer}
 use Rattle.cred_event.specs.declared.answer.Answer.TheVariants as answer
 use Rattle.cred_spelling.specs.Words as words
 use Rattle.cred_report.specs.Numbers.{hexadecimal}
-use Rattle.cred_reader.specs.declared.answers.Tells.{Tells}
-use Rattle.cred_reader.specs.declared.answers.Tells.TheVariants.{Nothing, Ids, Caps, Groups, Bits, Flag, File}
+use Rattle.cred_reader.specs.declared.answers.AnswerForm.{AnswerForm}
+use Rattle.cred_reader.specs.declared.answers.AnswerForm.TheVariants.{Nothing, Ids, Caps, Groups, Bits, Flag, File}
 use Rattle.cred_reader.specs.Answers as spec
 use Rattle.cred_reader.specs.Kinds as kinds
 use Rattle.cred_reader.specs.Fits.{IsLong, FitsAnswer}
@@ -23,14 +24,14 @@ use Rattle.cred_reader.proofs.Ids.{ids_spaced, ids_plain, ids_back}
 use Rattle.cred_reader.proofs.Words.{spaced}
 use Rattle.cred_reader.proofs.WordsBack.{bits_back}
 use Rattle.cred_reader.proofs.FileWordsBack.{mode_word, mode_spaced, mode_back, mode_plain}
-use Rattle.cred_reader.proofs.Back.{bare, with_word, with_two}
+use Rattle.cred_reader.proofs.ReadBack.{bare, with_word, with_two}
 use Rattle.cred_reader.proofs.RefusalsBack.{AnswerBack, eperm_back, einval_back, eacces_back, ebadf_back, no_task_back, no_hold_back, no_prepared_back}
 use Rattle.cred_reader.proofs.RefusalsBack.{no_broadcast_back, busy_back, exists_task_back, exists_process_back, exists_label_back, exists_file_back}
 use Rattle.cred_reader.proofs.RefusalsBack.{exists_broadcast_back, overridden_back, not_overridden_back, too_deep_back, stale_back, too_many_tasks_back}
 use Rattle.cred_reader.proofs.RefusalsBack.{too_many_files_back, too_many_holds_back, too_many_prepared_back, table_full_back, aborted_perm_back}
 use Rattle.cred_reader.proofs.RefusalsBack.{aborted_full_back}
 
-bits_long : (bits : ℕ) → bits < 2 ^ 8 → IsLong bits
+bits_long : (bits : ℕ) → bits ≤ LAST_BITS → IsLong bits
 bits_long bits h = omega arith
 
 acted_parts : (o t c cred s slot l left : List ℕ) → o ++ t ++ (c ++ cred ++ s ++ slot) ++ l ++ left ≡ o ++ (t ++ (c ++ (cred ++ (s ++ (slot ++ (l ++ left))))))
@@ -244,7 +245,7 @@ file_told owner group mode true fits = record {
   read = rw (id_back owner fits.0, id_back group fits.1, mode_back mode fits.2) refl;
 }
 
-is_same : (k other : Tells) → same k other ≡ true → k ≡ other
+is_same : (k other : AnswerForm) → same k other ≡ true → k ≡ other
 is_same Nothing Nothing h = refl
 is_same Ids Ids h = refl
 is_same Caps Caps h = refl
@@ -255,10 +256,10 @@ is_same File File h = refl
 is_same k other h = absurd (cc)
 
 -- a value is read where it is told
-where_told : (k other : Tells) (answer : Answer) → same k other ≡ true → AnswerBack other answer → AnswerBack k answer
-where_told k other answer h back = subst (λ (t : Tells). AnswerBack t answer) (sym (is_same k other h)) back
+where_told : (k other : AnswerForm) (answer : Answer) → same k other ≡ true → AnswerBack other answer → AnswerBack k answer
+where_told k other answer h back = subst (λ (t : AnswerForm). AnswerBack t answer) (sym (is_same k other h)) back
 
-pub answer_back : (k : Tells) (answer : Answer) → FitsAnswer answer → agrees k answer ≡ true → AnswerBack k answer
+pub answer_back : (k : AnswerForm) (answer : Answer) → FitsAnswer answer → agrees k answer ≡ true → AnswerBack k answer
 answer_back k answer.Done fits h = where_told k Nothing _ h (done_back fits)
 answer_back k (answer.Sealed cred slot) fits h = where_told k Nothing _ h (sealed_back cred slot fits)
 answer_back k (answer.Kept slot) fits h = where_told k Nothing _ h (kept_back slot fits)

@@ -1,9 +1,10 @@
 -- The answers that words are read as fit.
-use Rattle.std.proofs.Common.{ℕ, ◌<◌, ◌^◌, ◌==◌, Bool, true, false, cond, Option, All, List, [], ◌∷◌, Result, Ok, ok_or, length, codes}
+use Rattle.std.proofs.Common.{ℕ, ◌≤◌, ◌==◌, Bool, true, false, cond, Option, All, List, [], ◌∷◌, Result, Ok, ok_or, length, codes}
 use Rattle.std.specs.Str.{bytes_eq}
 use Rattle.cred_ids.specs.Id.{IsId}
 use Rattle.cred_ids.specs.Tests.{◌>>=◌}
 use Rattle.cred_caps.specs.Caps.{IsCaps}
+use Rattle.cred_caps.specs.Secure.{LAST_BITS}
 use Rattle.cred_record.specs.File.{IsMode}
 use Rattle.cred_event.specs.declared.answer.Answer.{Answer}
 use Rattle.cred_event.specs.declared.answer.Answer.TheVariants as answer
@@ -12,8 +13,8 @@ use Rattle.cred_spelling.specs.declared.reason.Reason.TheVariants.{Word}
 use Rattle.cred_spelling.specs.Spellings as spelling
 use Rattle.cred_spelling.specs.Words.{word_of, one_of, two_of, three_of, five_of}
 use Rattle.cred_grammar.specs.IdCalls.{ids}
-use Rattle.cred_reader.specs.declared.answers.Tells.{Tells}
-use Rattle.cred_reader.specs.declared.answers.Tells.TheVariants.{Nothing, Ids, Caps, Groups, Bits, Flag, File}
+use Rattle.cred_reader.specs.declared.answers.AnswerForm.{AnswerForm}
+use Rattle.cred_reader.specs.declared.answers.AnswerForm.TheVariants.{Nothing, Ids, Caps, Groups, Bits, Flag, File}
 use Rattle.cred_reader.specs.Answers as spec
 use Rattle.cred_reader.specs.Fits.{IsNumber, IsLong, FitsAnswer}
 use Rattle.cred_reader.specs.Kinds as kinds
@@ -100,7 +101,7 @@ file_told_fits (owner ∷ group ∷ words) =
     then_holds _ FitsAnswer (two_of spelling.mode_of kinds.flag_of words) _
     (two_holds (λ mode. IsMode mode) (λ flag. Unit {0}) spelling.mode_of kinds.flag_of mode_fits flag_fits words) (λ rest r. (i.0, i.1, r.0)))
 
-ok_fits : (told : Tells) (words : List (List ℕ)) → Holds FitsAnswer (spec.ok_words told words)
+ok_fits : (told : AnswerForm) (words : List (List ℕ)) → Holds FitsAnswer (spec.ok_words told words)
 unfolding spec.ok_words
 ok_fits Nothing words = plain_fits words
 ok_fits Ids words = ids_told_fit words
@@ -112,7 +113,7 @@ ok_fits Caps words =
 ok_fits Groups words = then_holds (All IsId) FitsAnswer (ids words) _ (ids_fit words) (λ v h. h)
 ok_fits Bits words =
     then_holds _ FitsAnswer (two_of kinds.bits_of kinds.flag_of words) _
-    (two_holds (λ bits. bits < 2 ^ 8) (λ flag. Unit {0}) kinds.bits_of kinds.flag_of bits_fits flag_fits words) (λ v h. h.0)
+    (two_holds (λ bits. bits ≤ LAST_BITS) (λ flag. Unit {0}) kinds.bits_of kinds.flag_of bits_fits flag_fits words) (λ v h. h.0)
 ok_fits Flag words = then_holds (λ flag. Unit {0}) FitsAnswer (one_of kinds.flag_of words) _ (any_holds (one_of kinds.flag_of words)) (λ v h. tt)
 ok_fits File words = file_told_fits words
 
@@ -181,7 +182,7 @@ refusal_fits (a ∷ b ∷ []) = two_words_fit a b
 refusal_fits (a ∷ b ∷ c ∷ []) = three_words_fit a b c
 refusal_fits (a ∷ b ∷ c ∷ d ∷ words) = tt
 
-pub answer_fits : (told : Tells) (words : List (List ℕ)) → Holds FitsAnswer (spec.read_answer told words)
+pub answer_fits : (told : AnswerForm) (words : List (List ℕ)) → Holds FitsAnswer (spec.read_answer told words)
 unfolding spec.read_answer
 answer_fits told [] = tt
 answer_fits told (word ∷ words) = either (bytes_eq word (codes "ok")) _ _ (ok_fits told words) (refusal_fits (word ∷ words))

@@ -12,7 +12,7 @@ use Rattle.cred_grammar.specs.IdCalls as calls
 use Rattle.cred_report.specs.Calls.{call_text}
 use Rattle.cred_reader.specs.Events as events
 use Rattle.cred_reader.specs.Fits.{FitsCall}
-use Rattle.cred_reader.proofs.Back.{IsBack, with_word, with_two, with_three}
+use Rattle.cred_reader.proofs.ReadBack.{IsBack, with_word, with_two, with_three}
 use Rattle.cred_reader.proofs.Words.{spaced}
 use Rattle.cred_reader.proofs.WordsBack.{arg_word, arg_spaced, arg_back, arg_plain}
 use Rattle.cred_reader.proofs.Ids.{ids_spaced, ids_plain, ids_back}

@@ -17,7 +17,7 @@ use Rattle.cred_report.specs.Questions.{file_text}
 use Rattle.cred_report.specs.Calls.{change_text}
 use Rattle.cred_reader.specs.Events as events
 use Rattle.cred_reader.specs.Fits.{IsFile, FitsChange}
-use Rattle.cred_reader.proofs.Back.{IsBack, alone, bare, with_word, with_three}
+use Rattle.cred_reader.proofs.ReadBack.{IsBack, alone, bare, with_word, with_three}
 use Rattle.cred_reader.proofs.Numbers.{long_number, number_back, decimal_plain}
 use Rattle.cred_reader.proofs.Sets.{set_back, set_plain}
 use Rattle.cred_reader.proofs.WordsBack.{arg_word, arg_spaced, arg_back, arg_plain, file_back, file_plain}

@@ -6,7 +6,7 @@ use Rattle.cred_ids.specs.declared.arg.Arg.{Arg}
 use Rattle.cred_record.specs.declared.want.Want.{Want}
 use Rattle.cred_record.specs.declared.id_call.IdCall.{IdCall}
 use Rattle.cred_event.specs.declared.event.Side.TheVariants.{Subjective, Objective}
-use Rattle.cred_event.specs.declared.event.Mode.TheVariants.{Fs, Real}
+use Rattle.cred_record.specs.declared.mode.PtraceMode.TheVariants.{Fs, Real}
 use Rattle.cred_event.specs.declared.event.Change.{Change}
 use Rattle.cred_event.specs.declared.event.Query.{Query}
 use Rattle.cred_event.specs.declared.event.Event.{Event}
@@ -20,7 +20,7 @@ use Rattle.cred_report.specs.Questions.{file_text, want_text}
 use Rattle.cred_report.specs.Events.{event_text}
 use Rattle.cred_reader.specs.Events as spec
 use Rattle.cred_reader.specs.Fits.{IsFile, FitsEvent}
-use Rattle.cred_reader.proofs.Back.{IsBack, alone, bare, with_word, with_two, with_three}
+use Rattle.cred_reader.proofs.ReadBack.{IsBack, alone, bare, with_word, with_two, with_three}
 use Rattle.cred_reader.proofs.Words.{spaced}
 use Rattle.cred_reader.proofs.Numbers.{long_number, number_back, id_number, id_back, decimal_inner, decimal_plain}
 use Rattle.cred_reader.proofs.WordsBack.{arg_word, arg_spaced, arg_back, arg_plain, want_back, want_plain, file_back, file_plain, ns_number, namespace_back}

@@ -32,8 +32,8 @@ use Rattle.cred_grammar.specs.FileCalls as file_calls
 use Rattle.cred_grammar.specs.Files.{file_at}
 use Rattle.cred_grammar.specs.IdCalls as calls
 use Rattle.cred_grammar.specs.Questions as questions
-use Rattle.cred_reader.specs.declared.names.EventName.{EventName}
-use Rattle.cred_reader.specs.declared.names.EventName.TheVariants as name
+use Rattle.cred_reader.specs.declared.names.EventWord.{EventWord}
+use Rattle.cred_reader.specs.declared.names.EventWord.TheVariants as name
 use Rattle.cred_reader.specs.declared.names.LabelEvent.{LabelEvent}
 use Rattle.cred_reader.specs.declared.names.LabelEvent.TheVariants as by_label
 use Rattle.cred_reader.specs.declared.names.TaskEvent.{TaskEvent}
@@ -327,7 +327,7 @@ file_event_fits files called (hold ∷ words) =
     then_holds FitsFileCall FitsEvent (file_calls.file_call_of files called words) _ (file_call_fits files called words)
     (λ call c. calling_fits label call l c))
 
-named_event_fits : (files : List NamedFile) (kind : EventName) (words : List (List ℕ)) → Holds FitsEvent (spec.event_named files kind words)
+named_event_fits : (files : List NamedFile) (kind : EventWord) (words : List (List ℕ)) → Holds FitsEvent (spec.event_named files kind words)
 unfolding spec.event_named
 named_event_fits files (name.Label kind) words = label_event_fits files kind words
 named_event_fits files (name.Task kind) words = task_event_fits kind words

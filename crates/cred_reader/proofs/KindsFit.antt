@@ -5,9 +5,11 @@ use Rattle.std.specs.Str.{bytes_eq}
 use Rattle.std.specs.Str.Parse.{digits_value}
 use Rattle.std.proofs.lemmas.List.Elements.{All-cons}
 use Rattle.std.proofs.lemmas.Bool.Decides.{nat_tests}
+use Rattle.cred_ids.specs.Limits.{LAST_NAMESPACE}
 use Rattle.cred_ids.specs.declared.arg.Arg.TheVariants.{Keep, Set}
 use Rattle.cred_ids.specs.Id.{IsId}
 use Rattle.cred_caps.specs.Caps.{IsCaps}
+use Rattle.cred_caps.specs.Secure.{LAST_BITS}
 use Rattle.cred_spelling.specs.Spellings as spelling
 use Rattle.cred_spelling.specs.Table.{named}
 use Rattle.cred_spelling.specs.Words.{word_of}
@@ -93,19 +95,19 @@ slot_fits word = number_after_fits IsNumber 115 spelling.number_of number_fits w
 pub cred_fits : OfAll IsLong kinds.cred_of
 cred_fits word = number_after_fits IsLong 99 spelling.long_of long_fits word
 
-within_fits : OfAll IsNamespace (spelling.number_within 0 15)
+within_fits : OfAll IsNamespace (spelling.number_within 0 LAST_NAMESPACE)
 within_fits word =
-    then_some IsNumber IsNamespace (spelling.number_of word) (spelling.within 0 15) (number_fits word)
-    (λ number h. if_holds IsNamespace _ number (λ t. up_to _ 15 (both (nat_le 0 number) _ t).1))
+    then_some IsNumber IsNamespace (spelling.number_of word) (spelling.within 0 LAST_NAMESPACE) (number_fits word)
+    (λ number h. if_holds IsNamespace _ number (λ t. up_to _ LAST_NAMESPACE (both (nat_le 0 number) _ t).1))
 
 pub namespace_fits : OfAll IsNamespace spelling.namespace_of
 namespace_fits [] = tt
 namespace_fits (first ∷ digits) = either_holds IsNamespace (first == 110) _ None (within_fits digits) tt
 
-pub bits_fits : OfAll (λ bits. bits < 2 ^ 8) kinds.bits_of
+pub bits_fits : OfAll (λ bits. bits ≤ LAST_BITS) kinds.bits_of
 bits_fits word =
-    then_some IsNumber (λ bits. bits < 2 ^ 8) (spelling.number_of word) _ (number_fits word)
-    (λ number h. if_holds (λ bits. bits < 2 ^ 8) _ number (λ t. let le = up_to number 255 t in omega arith))
+    then_some IsNumber (λ bits. bits ≤ LAST_BITS) (spelling.number_of word) _ (number_fits word)
+    (λ number h. if_holds (λ bits. bits ≤ LAST_BITS) _ number (up_to number LAST_BITS))
 
 -- it holds of each value of a table
 abbrev pub RowsHold : {A : Type 0} → (A → Type 0) → List (List ℕ × A) → Type 0

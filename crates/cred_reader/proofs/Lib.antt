@@ -4,7 +4,7 @@ pub mod OneFile
 pub mod Sets
 pub mod WordsBack
 pub mod Ids
-pub mod Back
+pub mod ReadBack
 pub mod FileWordsBack
 pub mod QueriesBack
 pub mod ChangesBack

@@ -10,7 +10,7 @@ use Rattle.cred_spelling.specs.Names as names
 use Rattle.cred_grammar.specs.Questions as questions
 use Rattle.cred_report.specs.Questions.{file_text, want_text, query_text}
 use Rattle.cred_reader.specs.Fits.{IsFile, FitsQuery}
-use Rattle.cred_reader.proofs.Back.{IsBack, alone, bare, with_word}
+use Rattle.cred_reader.proofs.ReadBack.{IsBack, alone, bare, with_word}
 use Rattle.cred_reader.proofs.Words.{spaced}
 use Rattle.cred_reader.proofs.Numbers.{long_number, number_back, decimal_plain}
 use Rattle.cred_reader.proofs.WordsBack.{want_back, want_plain, file_back, file_plain}

@@ -1,11 +1,13 @@
 -- Other words that were printed, read back.
-use Rattle.std.proofs.Common.{◌≡◌, ℕ, ◌^◌, ◌<◌, Bool, true, false, ◌||◌, ◌==◌, nat_le, Some, List, [], ◌∷◌, ◌++◌, length, Ok, codes, refl, decimal, arith}
+use Rattle.std.proofs.Common.{◌≡◌, ℕ, ◌≤◌, ◌<◌, Bool, true, false, ◌||◌, ◌==◌, nat_le, Some, List, [], ◌∷◌, ◌++◌, length, Ok, codes, refl, decimal, arith}
 use Rattle.std.specs.List.{list_all}
 use Rattle.std.specs.Str.{bytes_eq, all_ascii_digits}
 use Rattle.std.proofs.lemmas.Fmt.{decimal_nonempty}
 use Rattle.std.proofs.lemmas.Bool.Decides.{nat_tests}
+use Rattle.cred_ids.specs.Limits.{LAST_NAMESPACE}
 use Rattle.cred_ids.specs.declared.arg.Arg.{Arg}
 use Rattle.cred_ids.specs.declared.arg.Arg.TheVariants.{Keep, Set}
+use Rattle.cred_caps.specs.Secure.{LAST_BITS}
 use Rattle.cred_record.specs.declared.want.Want.{Want}
 use Rattle.cred_model.specs.Script.{Script}
 use Rattle.cred_spelling.specs.Spellings as spelling
@@ -104,11 +106,11 @@ pub namespace_back : (ns : ℕ) → IsNamespace ns → spelling.namespace_of (co
 namespace_back ns h =
     let number : IsNumber ns = omega arith in
     let low : nat_le 0 ns ≡ true = grind (arith, nat_tests) in
-    let high : nat_le ns 15 ≡ true = grind (arith, nat_tests) in
+    let high : nat_le ns LAST_NAMESPACE ≡ true = grind (arith, nat_tests) in
     rw (number_back ns number, low, high) refl
 
-pub bits_back : (bits : ℕ) → bits < 2 ^ 8 → kinds.bits_of (decimal bits) ≡ Some bits
+pub bits_back : (bits : ℕ) → bits ≤ LAST_BITS → kinds.bits_of (decimal bits) ≡ Some bits
 bits_back bits h =
     let number : IsNumber bits = omega arith in
-    let test : nat_le bits 255 ≡ true = grind (arith, nat_tests) in
+    let test : nat_le bits LAST_BITS ≡ true = grind (arith, nat_tests) in
     rw (number_back bits number, test) refl

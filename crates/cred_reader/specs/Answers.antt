@@ -23,14 +23,15 @@ use Rattle.cred_spelling.specs.Spellings.{letter, id_of, mode_of, set_of, number
 use Rattle.cred_spelling.specs.Table as table
 use Rattle.cred_spelling.specs.Words.{word_of, one_of, two_of, three_of, five_of}
 use Rattle.cred_grammar.specs.IdCalls.{ids}
-use Rattle.cred_reader.specs.declared.answers.Tells.{Tells}
-use Rattle.cred_reader.specs.declared.answers.Tells.TheVariants.{Nothing, Ids, Caps, Groups, Bits}
-use Rattle.cred_reader.specs.declared.answers.Tells.TheVariants.{Flag, File}
+use Rattle.cred_reader.specs.declared.answers.AnswerForm.{AnswerForm}
+use Rattle.cred_reader.specs.declared.answers.AnswerForm.TheVariants.{Nothing, Ids, Caps, Groups}
+use Rattle.cred_reader.specs.declared.answers.AnswerForm.TheVariants.{Bits}
+use Rattle.cred_reader.specs.declared.answers.AnswerForm.TheVariants.{Flag, File}
 use Rattle.cred_reader.specs.Kinds.{task_word, label_word, cred_of, slot_word, flag_of, bits_of}
 use Rattle.cred_ids.specs.Tests.{◌>>=◌}
 
 -- what a question asks for
-abbrev pub query_tells : Query → Tells
+abbrev pub query_tells : Query → AnswerForm
 query_tells query.Ids = Ids
 query_tells query.Caps = Caps
 query_tells query.Groups = Groups
@@ -41,7 +42,7 @@ query_tells (query.AmbIs cap) = Flag
 query_tells (query.Check file want) = Nothing
 
 -- what an event asks for
-abbrev pub told_by : Event → Tells
+abbrev pub told_by : Event → AnswerForm
 told_by (event.Ask label query) = query_tells query
 told_by (event.Dumped task) = Flag
 told_by (event.Stat hold file) = File
@@ -102,7 +103,7 @@ file_told (owner ∷ group ∷ words) = do
 file_told words = Err Count
 
 -- what stands after `ok`
-unfoldable pub ok_words : Tells → List (List ℕ) → Result Answer Reason
+unfoldable pub ok_words : AnswerForm → List (List ℕ) → Result Answer Reason
 ok_words Nothing words = plain words
 ok_words Ids words = ids_told words
 ok_words Caps words = do
@@ -212,7 +213,7 @@ read_refusal (a ∷ b ∷ c ∷ []) = three_words a b c
 read_refusal words = Err Count
 
 -- the answer to an event that asks for this
-unfoldable pub read_answer : Tells → List (List ℕ) → Result Answer Reason
+unfoldable pub read_answer : AnswerForm → List (List ℕ) → Result Answer Reason
 read_answer told [] = Err Count
 read_answer told (word ∷ words) =
     if bytes_eq word (codes "ok") then ok_words told words else read_refusal (word ∷ words)

@@ -23,8 +23,8 @@ use Rattle.cred_grammar.specs.Modes.{look_mode}
 use Rattle.cred_grammar.specs.Files.{file_at}
 use Rattle.cred_grammar.specs.Questions.{query_named}
 use Rattle.cred_grammar.specs.IdCalls.{id_call_of}
-use Rattle.cred_reader.specs.declared.names.EventName.{EventName}
-use Rattle.cred_reader.specs.declared.names.EventName.TheVariants as name
+use Rattle.cred_reader.specs.declared.names.EventWord.{EventWord}
+use Rattle.cred_reader.specs.declared.names.EventWord.TheVariants as name
 use Rattle.cred_reader.specs.declared.names.LabelEvent.{LabelEvent}
 use Rattle.cred_reader.specs.declared.names.LabelEvent.TheVariants as by_label
 use Rattle.cred_reader.specs.declared.names.TaskEvent.{TaskEvent}
@@ -33,7 +33,7 @@ use Rattle.cred_reader.specs.Kinds.{task_word, process_word, label_word, fd_of}
 use Rattle.cred_ids.specs.Tests.{◌>>=◌}
 
 -- what an event's text begins with
-unfoldable pub event_names : List (List ℕ × EventName)
+unfoldable pub event_names : List (List ℕ × EventWord)
 event_names =
     (codes "init", name.Task by_task.Init) ∷
     (codes "take", name.Label by_label.Take) ∷
@@ -67,7 +67,7 @@ event_names =
     (codes "raw", name.Task by_task.Raw) ∷
     []
 
-abbrev pub event_name : List ℕ → Option EventName
+abbrev pub event_name : List ℕ → Option EventWord
 event_name word = named event_names word
 
 -- a new task, with its process, its ids and its namespace
@@ -200,7 +200,7 @@ ptrace_of (asked ∷ from ∷ hold ∷ words) = do
 ptrace_of words = Err Count
 
 -- an event, by its name and the words after it
-unfoldable pub event_named : List NamedFile → EventName → List (List ℕ) → Result Event Reason
+unfoldable pub event_named : List NamedFile → EventWord → List (List ℕ) → Result Event Reason
 event_named files (name.Label kind) words = label_event files kind words
 event_named files (name.Task kind) words = task_event kind words
 event_named files name.Act words = one_of number_of words >>= λ broadcast. Ok (event.Act broadcast)

@@ -10,6 +10,7 @@ use Rattle.cred_ids.specs.declared.id.Ids4.{Ids4}
 use Rattle.cred_ids.specs.Id.{IsId}
 use Rattle.cred_ids.specs.Limits.{LAST_NAMESPACE}
 use Rattle.cred_caps.specs.Caps.{IsCaps}
+use Rattle.cred_caps.specs.Secure.{LAST_BITS}
 use Rattle.cred_record.specs.File.{IsMode}
 use Rattle.cred_record.specs.declared.want.Want.{Want}
 use Rattle.cred_record.specs.declared.gains.Gains.{Gains}
@@ -163,7 +164,7 @@ FitsTold (told.Ids uid gid) = FitsIds uid × FitsIds gid
 FitsTold (told.Caps perm inh eff bound amb) =
     IsCaps perm × IsCaps inh × IsCaps eff × IsCaps bound × IsCaps amb
 FitsTold (told.Groups groups) = All IsId groups
-FitsTold (told.Bits bits nnp) = bits < 2 ^ 8
+FitsTold (told.Bits bits nnp) = bits ≤ LAST_BITS
 FitsTold (told.Flag flag) = ⊤
 FitsTold (told.File owner group mode attr) = IsId owner × IsId group × IsMode mode
 

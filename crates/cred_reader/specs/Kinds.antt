@@ -4,6 +4,7 @@ use Rattle.std.specs.Prelude.{ℕ, Bool, true, false, ◌==◌, nat_le, List, []
 use Rattle.std.specs.Prelude.{if◌then◌else◌}
 use Rattle.std.specs.declared.option.Option.{Option}
 use Rattle.std.specs.Option.{option_and_then}
+use Rattle.cred_caps.specs.Secure.{LAST_BITS}
 use Rattle.cred_spelling.specs.Spellings.{letter, number_of, long_of}
 use Rattle.cred_spelling.specs.Table.{named}
 
@@ -46,4 +47,4 @@ flag_of word = named flags word
 -- securebits
 abbrev pub bits_of : List ℕ → Option ℕ
 bits_of word =
-    option_and_then (λ bits. if nat_le bits 255 then Some bits else None) (number_of word)
+    option_and_then (λ bits. if nat_le bits LAST_BITS then Some bits else None) (number_of word)

@@ -4,7 +4,7 @@ ghost use Rattle.cred_spelling.specs.Read.{Says, nows};
 ghost use Rattle.cred_grammar.specs.ReadAnswers.{GivesLine};
 ghost use Rattle.cred_reader.specs.Answers as spec;
 
-use crate::kinds::{Bits, Cred, Flag, Mode, Slot, Task};
+use crate::kinds::{CredWord, FlagWord, ModeWord, SecurebitsWord, SlotWord, TaskWord};
 use crate::refusals::read_refusal;
 use cred_caps::CapSet;
 use cred_event::{Answer, Event, Query, Told};
@@ -17,7 +17,7 @@ use std::alloc::Global;
 
 /// What an event asks for: how the words after `ok` are read.
 #[derive(Clone, Copy)]
-pub enum Tells {
+pub enum AnswerForm {
     /// It asks nothing, or whether something is allowed.
     Nothing,
     /// Ids of users, then of groups.
@@ -35,27 +35,27 @@ pub enum Tells {
 }
 
 /// What the event asks for.
-pub(crate) fn told_by(event: &Event) -> Tells
+pub(crate) fn told_by(event: &Event) -> AnswerForm
     ensures { result ≡ spec.told_by event.now }
 {
     match event {
         Event::Ask { query, .. } => query_tells(*query),
-        Event::Dumped { .. } => Tells::Flag,
-        Event::Stat { .. } => Tells::File,
-        _ => Tells::Nothing,
+        Event::Dumped { .. } => AnswerForm::Flag,
+        Event::Stat { .. } => AnswerForm::File,
+        _ => AnswerForm::Nothing,
     }
 }
 
-fn query_tells(query: Query) -> Tells
+fn query_tells(query: Query) -> AnswerForm
     ensures { result ≡ spec.query_tells query }
 {
     match query {
-        Query::Ids => Tells::Ids,
-        Query::Caps => Tells::Caps,
-        Query::Groups => Tells::Groups,
-        Query::Bits => Tells::Bits,
-        Query::Capable(_) | Query::Bset(_) | Query::AmbIs(_) => Tells::Flag,
-        Query::Check { .. } => Tells::Nothing,
+        Query::Ids => AnswerForm::Ids,
+        Query::Caps => AnswerForm::Caps,
+        Query::Groups => AnswerForm::Groups,
+        Query::Bits => AnswerForm::Bits,
+        Query::Capable(_) | Query::Bset(_) | Query::AmbIs(_) => AnswerForm::Flag,
+        Query::Check { .. } => AnswerForm::Nothing,
     }
 }
 
@@ -96,8 +96,8 @@ fn acted(words: &[&[u8]]) -> Result<Answer, Reason>
 {
     match words {
         [task, a, b, _left, number] => {
-            let (task, cred) = two::<Task, Cred>(&[*task, *a])?;
-            let (slot, left) = two::<Slot, Number>(&[*b, *number])?;
+            let (task, cred) = two::<TaskWord, CredWord>(&[*task, *a])?;
+            let (slot, left) = two::<SlotWord, Number>(&[*b, *number])?;
             Ok(Answer::Acted {
                 task,
                 cred,
@@ -116,11 +116,11 @@ fn longest(words: &[&[u8]]) -> Result<Answer, Reason>
 {
     match words {
         [a, b, _left, number] => {
-            let (cred, slot, left) = three::<Cred, Slot, Number>(&[*a, *b, *number])?;
+            let (cred, slot, left) = three::<CredWord, SlotWord, Number>(&[*a, *b, *number])?;
             Ok(Answer::Began { cred, slot, left })
         }
         [a, b, _ended, number, _gain, words @ ..] => {
-            let (cred, slot, ended) = three::<Cred, Slot, Number>(&[*a, *b, *number])?;
+            let (cred, slot, ended) = three::<CredWord, SlotWord, Number>(&[*a, *b, *number])?;
             let (file, inherit, root) = three::<CapSet, CapSet, CapSet>(words)?;
             Ok(Answer::Executed {
                 cred,
@@ -157,7 +157,7 @@ fn plain(words: &[&[u8]]) -> Result<Answer, Reason>
     match words {
         [] => Ok(Answer::Done),
         [slot] => Ok(Answer::Kept {
-            slot: word::<Slot>(slot)?,
+            slot: word::<SlotWord>(slot)?,
         }),
         [a, b] => {
             if is(a, "was") {
@@ -165,7 +165,7 @@ fn plain(words: &[&[u8]]) -> Result<Answer, Reason>
                     previous: word::<Id>(b)?,
                 });
             }
-            let (cred, slot) = two::<Cred, Slot>(&[*a, *b])?;
+            let (cred, slot) = two::<CredWord, SlotWord>(&[*a, *b])?;
             Ok(Answer::Sealed { cred, slot })
         }
         _ => longer(words),
@@ -180,7 +180,7 @@ fn file_told(words: &[&[u8]]) -> Result<Answer, Reason>
     match words {
         [owner, group, words @ ..] => {
             let (owner, group) = two::<Id, Id>(&[*owner, *group])?;
-            let (mode, attr) = two::<Mode, Flag>(words)?;
+            let (mode, attr) = two::<ModeWord, FlagWord>(words)?;
             Ok(Answer::Told(Told::File {
                 owner,
                 group,
@@ -194,13 +194,13 @@ fn file_told(words: &[&[u8]]) -> Result<Answer, Reason>
 
 /// What stands after `ok`.
 #[tactic(auto, unfolding(crate::specs::Answers::ok_words))]
-fn ok_words(alloc: Global, told: Tells, words: &[&[u8]]) -> Result<Answer, LineRefusal>
+fn ok_words(alloc: Global, told: AnswerForm, words: &[&[u8]]) -> Result<Answer, LineRefusal>
     ensures { GivesLine (λ answer. answer) result (spec.ok_words told (nows words.now)) }
 {
     match told {
-        Tells::Nothing => Ok(plain(words)?),
-        Tells::Ids => Ok(ids_told(words)?),
-        Tells::Caps => {
+        AnswerForm::Nothing => Ok(plain(words)?),
+        AnswerForm::Ids => Ok(ids_told(words)?),
+        AnswerForm::Caps => {
             let (perm, inh, eff, bound, amb) = five::<CapSet, CapSet, CapSet, CapSet, CapSet>(
                 words,
             )?;
@@ -212,16 +212,16 @@ fn ok_words(alloc: Global, told: Tells, words: &[&[u8]]) -> Result<Answer, LineR
                 amb,
             }))
         }
-        Tells::Groups => {
+        AnswerForm::Groups => {
             let groups = IdList::from_vec(ids(alloc, words)?);
             Ok(Answer::Told(Told::Groups(groups)))
         }
-        Tells::Bits => {
-            let (bits, nnp) = two::<Bits, Flag>(words)?;
+        AnswerForm::Bits => {
+            let (bits, nnp) = two::<SecurebitsWord, FlagWord>(words)?;
             Ok(Answer::Told(Told::Bits { bits, nnp }))
         }
-        Tells::Flag => Ok(Answer::Told(Told::Flag(one::<Flag>(words)?))),
-        Tells::File => Ok(file_told(words)?),
+        AnswerForm::Flag => Ok(Answer::Told(Told::Flag(one::<FlagWord>(words)?))),
+        AnswerForm::File => Ok(file_told(words)?),
     }
 }
 
@@ -233,7 +233,7 @@ fn ok_words(alloc: Global, told: Tells, words: &[&[u8]]) -> Result<Answer, LineR
 #[tactic(auto, unfolding(crate::specs::Answers::read_answer))]
 pub(crate) fn read_answer(
     alloc: Global,
-    told: Tells,
+    told: AnswerForm,
     words: &[&[u8]],
 ) -> Result<Answer, LineRefusal>
     ensures { GivesLine (λ answer. answer) result (spec.read_answer told (nows words.now)) }

@@ -5,8 +5,8 @@ ghost use Rattle.std.specs.Prelude.{◌≡◌};
 ghost use Rattle.cred_model.specs.Course.{calling};
 ghost use Rattle.cred_reader.specs.Events as spec;
 
-use crate::kinds::{Fd, Label, Process, Task};
-use crate::names::{EventName, LabelEvent, TaskEvent, event_name};
+use crate::kinds::{FdWord, LabelWord, ProcessWord, TaskWord};
+use crate::names::{EventWord, LabelEvent, TaskEvent, event_name};
 use cred_event::{Change, Event, FileCall, Side};
 use cred_grammar::{
     AccessMode, LineRefusal, change_of, file_at, file_call_of, id_call_of, query_named,
@@ -15,8 +15,8 @@ use cred_ids::Id;
 use cred_record::{IdCall, Want};
 use cred_script::Script;
 use cred_spelling::{
-    FileCallName, Namespace, Number, Reason, altered_name, five, id_name, no_words, one, three,
-    two, word,
+    FileCallName, Number, Reason, SpelledNamespace, altered_name, five, id_name, no_words, one,
+    three, two, word,
 };
 use std::alloc::Global;
 
@@ -25,7 +25,9 @@ use std::alloc::Global;
 fn init_of(words: &[&[u8]]) -> Result<Event, Reason>
     ensures { Says (λ event. event) result (spec.init_of (nows words.now)) }
 {
-    let (task, process, user, group, ns) = five::<Task, Process, Id, Id, Namespace>(words)?;
+    let (task, process, user, group, ns) = five::<TaskWord, ProcessWord, Id, Id, SpelledNamespace>(
+        words,
+    )?;
     Ok(Event::Init {
         task,
         process,
@@ -40,7 +42,7 @@ fn init_of(words: &[&[u8]]) -> Result<Event, Reason>
 fn read_take(side: Side, words: &[&[u8]]) -> Result<Event, Reason>
     ensures { Says (λ event. event) result (spec.read_take side (nows words.now)) }
 {
-    let (label, task) = two::<Label, Task>(words)?;
+    let (label, task) = two::<LabelWord, TaskWord>(words)?;
     Ok(Event::Take { label, task, side })
 }
 
@@ -51,7 +53,7 @@ fn read_ask(script: &Script, words: &[&[u8]]) -> Result<Event, Reason>
 {
     match words {
         [hold, asked, words @ ..] => {
-            let label = word::<Label>(hold)?;
+            let label = word::<LabelWord>(hold)?;
             let query = query_named(script.files(), asked, words)?;
             Ok(Event::Ask { label, query })
         }
@@ -66,8 +68,8 @@ fn signal_of(words: &[&[u8]]) -> Result<Event, Reason>
 {
     match words {
         [from, hold, words @ ..] => {
-            let (from, hold) = two::<Task, Label>(&[*from, *hold])?;
-            let (to, target) = two::<Task, Label>(words)?;
+            let (from, hold) = two::<TaskWord, LabelWord>(&[*from, *hold])?;
+            let (to, target) = two::<TaskWord, LabelWord>(words)?;
             Ok(Event::Signal {
                 from,
                 hold,
@@ -96,7 +98,7 @@ fn read_alter(script: &Script, words: &[&[u8]]) -> Result<Event, Reason>
 {
     match words {
         [prepared, changed, words @ ..] => {
-            let label = word::<Label>(prepared)?;
+            let label = word::<LabelWord>(prepared)?;
             let change = change_named(script, changed, words)?;
             Ok(Event::Alter { label, change })
         }
@@ -119,7 +121,7 @@ fn read_begin(alloc: Global, words: &[&[u8]]) -> Result<Event, LineRefusal>
 {
     match words {
         [caller, called, words @ ..] => {
-            let task = word::<Task>(caller)?;
+            let task = word::<TaskWord>(caller)?;
             let call = call_named(alloc, called, words)?;
             Ok(Event::Begin { task, call })
         }
@@ -134,7 +136,7 @@ fn raw_of(alloc: Global, words: &[&[u8]]) -> Result<Event, LineRefusal>
 {
     match words {
         [caller, called, words @ ..] => {
-            let task = word::<Task>(caller)?;
+            let task = word::<TaskWord>(caller)?;
             let call = call_named(alloc, called, words)?;
             Ok(Event::Raw { task, call })
         }
@@ -172,7 +174,7 @@ fn file_event(
 {
     match words {
         [hold, words @ ..] => {
-            let hold = word::<Label>(hold)?;
+            let hold = word::<LabelWord>(hold)?;
             let call = file_call_of(alloc, script.files(), name, words)?;
             Ok(calling(hold, call))
         }
@@ -187,9 +189,9 @@ fn read_open(script: &Script, words: &[&[u8]]) -> Result<Event, Reason>
 {
     match words {
         [hold, name, words @ ..] => {
-            let hold = word::<Label>(hold)?;
+            let hold = word::<LabelWord>(hold)?;
             let file = file_at(script.files(), name)?;
-            let (want, fd) = two::<Want, Fd>(words)?;
+            let (want, fd) = two::<Want, FdWord>(words)?;
             Ok(Event::OpenFile {
                 hold,
                 file,
@@ -211,23 +213,23 @@ fn label_event(script: &Script, name: LabelEvent, words: &[&[u8]]) -> Result<Eve
         LabelEvent::Take => read_take(Side::Subjective, words),
         LabelEvent::TakeReal => read_take(Side::Objective, words),
         LabelEvent::TakeFile => {
-            let (label, fd) = two::<Label, Fd>(words)?;
+            let (label, fd) = two::<LabelWord, FdWord>(words)?;
             Ok(Event::TakeFile { label, fd })
         }
         LabelEvent::Release => Ok(Event::Release {
-            label: one::<Label>(words)?,
+            label: one::<LabelWord>(words)?,
         }),
         LabelEvent::Ask => read_ask(script, words),
         LabelEvent::Prepare => {
-            let (label, task, hold) = three::<Label, Task, Label>(words)?;
+            let (label, task, hold) = three::<LabelWord, TaskWord, LabelWord>(words)?;
             Ok(Event::Prepare { label, task, hold })
         }
         LabelEvent::Alter => read_alter(script, words),
         LabelEvent::Commit => Ok(Event::Commit {
-            label: one::<Label>(words)?,
+            label: one::<LabelWord>(words)?,
         }),
         LabelEvent::Abort => Ok(Event::Abort {
-            label: one::<Label>(words)?,
+            label: one::<LabelWord>(words)?,
         }),
         LabelEvent::OpenFile => read_open(script, words),
     }
@@ -242,19 +244,19 @@ fn task_event(alloc: Global, name: TaskEvent, words: &[&[u8]]) -> Result<Event, 
         TaskEvent::Init => Ok(init_of(words)?),
         TaskEvent::Signal => Ok(signal_of(words)?),
         TaskEvent::Override => {
-            let (task, label) = two::<Task, Label>(words)?;
+            let (task, label) = two::<TaskWord, LabelWord>(words)?;
             Ok(Event::Override { task, label })
         }
         TaskEvent::Revert => Ok(Event::Revert {
-            task: one::<Task>(words)?,
+            task: one::<TaskWord>(words)?,
         }),
         TaskEvent::Begin => read_begin(alloc, words),
         TaskEvent::Spawn => {
-            let (task, child) = two::<Task, Task>(words)?;
+            let (task, child) = two::<TaskWord, TaskWord>(words)?;
             Ok(Event::Spawn { task, child })
         }
         TaskEvent::Fork => {
-            let (task, child, process) = three::<Task, Task, Process>(words)?;
+            let (task, child, process) = three::<TaskWord, TaskWord, ProcessWord>(words)?;
             Ok(Event::Fork {
                 task,
                 child,
@@ -262,14 +264,14 @@ fn task_event(alloc: Global, name: TaskEvent, words: &[&[u8]]) -> Result<Event, 
             })
         }
         TaskEvent::Exit => Ok(Event::Exit {
-            task: one::<Task>(words)?,
+            task: one::<TaskWord>(words)?,
         }),
         TaskEvent::Dumpable => {
-            let (task, value) = two::<Task, Number>(words)?;
+            let (task, value) = two::<TaskWord, Number>(words)?;
             Ok(Event::Dumpable { task, value })
         }
         TaskEvent::Dumped => Ok(Event::Dumped {
-            task: one::<Task>(words)?,
+            task: one::<TaskWord>(words)?,
         }),
         TaskEvent::Raw => raw_of(alloc, words),
     }
@@ -283,8 +285,8 @@ fn ptrace_of(words: &[&[u8]]) -> Result<Event, Reason>
     match words {
         [asked, from, hold, words @ ..] => {
             let mode = word::<AccessMode>(asked)?;
-            let (from, hold) = two::<Task, Label>(&[*from, *hold])?;
-            let (to, target) = two::<Task, Label>(words)?;
+            let (from, hold) = two::<TaskWord, LabelWord>(&[*from, *hold])?;
+            let (to, target) = two::<TaskWord, LabelWord>(words)?;
             Ok(Event::Ptrace {
                 from,
                 hold,
@@ -302,27 +304,27 @@ fn ptrace_of(words: &[&[u8]]) -> Result<Event, Reason>
 fn event_named(
     alloc: Global,
     script: &Script,
-    name: EventName,
+    name: EventWord,
     words: &[&[u8]],
 ) -> Result<Event, LineRefusal>
     ensures { GivesLine (λ event. event) result
         (spec.event_named script.now.files name (nows words.now)) }
 {
     match name {
-        EventName::Label(name) => Ok(label_event(script, name, words)?),
-        EventName::Task(name) => task_event(alloc, name, words),
-        EventName::Act => Ok(Event::Act {
+        EventWord::Label(name) => Ok(label_event(script, name, words)?),
+        EventWord::Task(name) => task_event(alloc, name, words),
+        EventWord::Act => Ok(Event::Act {
             broadcast: one::<Number>(words)?,
         }),
-        EventName::CloseFile => Ok(Event::CloseFile {
-            fd: one::<Fd>(words)?,
+        EventWord::CloseFile => Ok(Event::CloseFile {
+            fd: one::<FdWord>(words)?,
         }),
-        EventName::Sweep => {
+        EventWord::Sweep => {
             no_words(words)?;
             Ok(Event::Sweep)
         }
-        EventName::Ptrace => Ok(ptrace_of(words)?),
-        EventName::File(name) => file_event(alloc, script, name, words),
+        EventWord::Ptrace => Ok(ptrace_of(words)?),
+        EventWord::File(name) => file_event(alloc, script, name, words),
     }
 }
 

@@ -18,9 +18,9 @@ fn number_after(letter: u8, word: &[u8]) -> Option<u32>
 }
 
 /// A task, as `t1`.
-pub(crate) enum Task {}
+pub(crate) enum TaskWord {}
 
-impl Spelling for Task {
+impl Spelling for TaskWord {
     type Value = u32;
 
     ghost spelled = { spec.task_word };
@@ -31,9 +31,9 @@ impl Spelling for Task {
 }
 
 /// A process, as `p1`.
-pub(crate) enum Process {}
+pub(crate) enum ProcessWord {}
 
-impl Spelling for Process {
+impl Spelling for ProcessWord {
     type Value = u32;
 
     ghost spelled = { spec.process_word };
@@ -44,9 +44,9 @@ impl Spelling for Process {
 }
 
 /// A label, as `h100030`.
-pub(crate) enum Label {}
+pub(crate) enum LabelWord {}
 
-impl Spelling for Label {
+impl Spelling for LabelWord {
     type Value = u32;
 
     ghost spelled = { spec.label_word };
@@ -57,9 +57,9 @@ impl Spelling for Label {
 }
 
 /// A descriptor, as `f1`.
-pub(crate) enum Fd {}
+pub(crate) enum FdWord {}
 
-impl Spelling for Fd {
+impl Spelling for FdWord {
     type Value = u32;
 
     ghost spelled = { spec.fd_of };
@@ -70,9 +70,9 @@ impl Spelling for Fd {
 }
 
 /// A slot, as `s1`.
-pub(crate) enum Slot {}
+pub(crate) enum SlotWord {}
 
-impl Spelling for Slot {
+impl Spelling for SlotWord {
     type Value = u32;
 
     ghost spelled = { spec.slot_word };
@@ -83,9 +83,9 @@ impl Spelling for Slot {
 }
 
 /// A sealed credential, as `c1`.
-pub(crate) enum Cred {}
+pub(crate) enum CredWord {}
 
-impl Spelling for Cred {
+impl Spelling for CredWord {
     type Value = u64;
 
     ghost spelled = { spec.cred_of };
@@ -109,9 +109,9 @@ fn flag_of(word: &[u8]) -> Option<bool>
 }
 
 /// A flag, as `0` or `1`.
-pub(crate) enum Flag {}
+pub(crate) enum FlagWord {}
 
-impl Spelling for Flag {
+impl Spelling for FlagWord {
     type Value = bool;
 
     ghost spelled = { spec.flag_of };
@@ -122,9 +122,9 @@ impl Spelling for Flag {
 }
 
 /// Securebits, as their number.
-pub(crate) enum Bits {}
+pub(crate) enum SecurebitsWord {}
 
-impl Spelling for Bits {
+impl Spelling for SecurebitsWord {
     type Value = SecureBits;
 
     ghost spelled = { spec.bits_of };
@@ -135,9 +135,9 @@ impl Spelling for Bits {
 }
 
 /// A file's mode, in four octal digits.
-pub(crate) enum Mode {}
+pub(crate) enum ModeWord {}
 
-impl Spelling for Mode {
+impl Spelling for ModeWord {
     type Value = u16;
 
     ghost spelled = { spelling.mode_of };

@@ -16,7 +16,7 @@ mod names;
 mod reader;
 mod refusals;
 
-pub use answers::Tells;
+pub use answers::AnswerForm;
 pub use laws::{lists_differ, texts_differ};
-pub use names::{EventName, LabelEvent, TaskEvent};
+pub use names::{EventWord, LabelEvent, TaskEvent};
 pub use reader::read;

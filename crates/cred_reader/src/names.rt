@@ -6,7 +6,7 @@ use cred_spelling::{FileCallName, named};
 
 /// The events of a report, by the word that their text begins with.
 #[derive(Clone, Copy)]
-pub enum EventName {
+pub enum EventWord {
     /// A label stands after the word.
     Label(LabelEvent),
     /// A task stands after the word.
@@ -51,42 +51,42 @@ pub enum TaskEvent {
     Raw,
 }
 
-static EVENT_NAMES: [(&str, EventName); 30] = [
-    ("init", EventName::Task(TaskEvent::Init)),
-    ("take", EventName::Label(LabelEvent::Take)),
-    ("takereal", EventName::Label(LabelEvent::TakeReal)),
-    ("takefile", EventName::Label(LabelEvent::TakeFile)),
-    ("drop", EventName::Label(LabelEvent::Release)),
-    ("ask", EventName::Label(LabelEvent::Ask)),
-    ("signal", EventName::Task(TaskEvent::Signal)),
-    ("prepare", EventName::Label(LabelEvent::Prepare)),
-    ("change", EventName::Label(LabelEvent::Alter)),
-    ("commit", EventName::Label(LabelEvent::Commit)),
-    ("abort", EventName::Label(LabelEvent::Abort)),
-    ("override", EventName::Task(TaskEvent::Override)),
-    ("revert", EventName::Task(TaskEvent::Revert)),
-    ("begin", EventName::Task(TaskEvent::Begin)),
-    ("act", EventName::Act),
-    ("open", EventName::Label(LabelEvent::OpenFile)),
-    ("close", EventName::CloseFile),
-    ("spawn", EventName::Task(TaskEvent::Spawn)),
-    ("fork", EventName::Task(TaskEvent::Fork)),
-    ("exit", EventName::Task(TaskEvent::Exit)),
-    ("sweep", EventName::Sweep),
-    ("dumpable", EventName::Task(TaskEvent::Dumpable)),
-    ("dumped", EventName::Task(TaskEvent::Dumped)),
-    ("ptrace", EventName::Ptrace),
-    ("chown", EventName::File(FileCallName::Chown)),
-    ("chmod", EventName::File(FileCallName::Chmod)),
-    ("setattr", EventName::File(FileCallName::SetAttr)),
-    ("clearattr", EventName::File(FileCallName::ClearAttr)),
-    ("stat", EventName::File(FileCallName::Stat)),
-    ("raw", EventName::Task(TaskEvent::Raw)),
+static EVENT_NAMES: [(&str, EventWord); 30] = [
+    ("init", EventWord::Task(TaskEvent::Init)),
+    ("take", EventWord::Label(LabelEvent::Take)),
+    ("takereal", EventWord::Label(LabelEvent::TakeReal)),
+    ("takefile", EventWord::Label(LabelEvent::TakeFile)),
+    ("drop", EventWord::Label(LabelEvent::Release)),
+    ("ask", EventWord::Label(LabelEvent::Ask)),
+    ("signal", EventWord::Task(TaskEvent::Signal)),
+    ("prepare", EventWord::Label(LabelEvent::Prepare)),
+    ("change", EventWord::Label(LabelEvent::Alter)),
+    ("commit", EventWord::Label(LabelEvent::Commit)),
+    ("abort", EventWord::Label(LabelEvent::Abort)),
+    ("override", EventWord::Task(TaskEvent::Override)),
+    ("revert", EventWord::Task(TaskEvent::Revert)),
+    ("begin", EventWord::Task(TaskEvent::Begin)),
+    ("act", EventWord::Act),
+    ("open", EventWord::Label(LabelEvent::OpenFile)),
+    ("close", EventWord::CloseFile),
+    ("spawn", EventWord::Task(TaskEvent::Spawn)),
+    ("fork", EventWord::Task(TaskEvent::Fork)),
+    ("exit", EventWord::Task(TaskEvent::Exit)),
+    ("sweep", EventWord::Sweep),
+    ("dumpable", EventWord::Task(TaskEvent::Dumpable)),
+    ("dumped", EventWord::Task(TaskEvent::Dumped)),
+    ("ptrace", EventWord::Ptrace),
+    ("chown", EventWord::File(FileCallName::Chown)),
+    ("chmod", EventWord::File(FileCallName::Chmod)),
+    ("setattr", EventWord::File(FileCallName::SetAttr)),
+    ("clearattr", EventWord::File(FileCallName::ClearAttr)),
+    ("stat", EventWord::File(FileCallName::Stat)),
+    ("raw", EventWord::Task(TaskEvent::Raw)),
 ];
 
 /// The event that the word names.
 #[tactic(auto, unfolding(crate::specs::Events::event_names))]
-pub(crate) fn event_name(word: &[u8]) -> Option<EventName>
+pub(crate) fn event_name(word: &[u8]) -> Option<EventWord>
     ensures { result ≡ spec.event_name word.now }
 {
     named(&EVENT_NAMES, word)

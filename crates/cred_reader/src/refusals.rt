@@ -3,7 +3,7 @@ ghost use Rattle.std.specs.Prelude.{◌≡◌};
 ghost use Rattle.cred_spelling.specs.Read.{Says, nows};
 ghost use Rattle.cred_reader.specs.Answers as spec;
 
-use crate::kinds::{Cred, Label, Task};
+use crate::kinds::{CredWord, LabelWord, TaskWord};
 use cred_event::{AbortCause, Answer, Counted, Named};
 use cred_spelling::{Number, Reason, is, named, two, word};
 
@@ -87,13 +87,13 @@ fn no_of(what: &[u8], text: &[u8]) -> Result<Answer, Reason>
     ensures { Says (λ answer. answer) result (spec.no_of what.now text.now) }
 {
     if is(what, "task") {
-        return Ok(Answer::NoTask(word::<Task>(text)?));
+        return Ok(Answer::NoTask(word::<TaskWord>(text)?));
     }
     if is(what, "hold") {
-        return Ok(Answer::NoHold(word::<Label>(text)?));
+        return Ok(Answer::NoHold(word::<LabelWord>(text)?));
     }
     if is(what, "prepared") {
-        return Ok(Answer::NoPrepared(word::<Label>(text)?));
+        return Ok(Answer::NoPrepared(word::<LabelWord>(text)?));
     }
     if is(what, "broadcast") {
         return Ok(Answer::NoBroadcast(word::<Number>(text)?));
@@ -135,14 +135,14 @@ fn three_words(a: &[u8], b: &[u8], c: &[u8]) -> Result<Answer, Reason>
         return no_of(b, c);
     }
     if is(a, "stale") {
-        let (base, now) = two::<Cred, Cred>(&[b, c])?;
+        let (base, now) = two::<CredWord, CredWord>(&[b, c])?;
         return Ok(Answer::Stale { base, now });
     }
     if is(a, "too") {
         return Ok(Answer::TooMany(counted_of(c).ok_or(Reason::Word)?));
     }
     if is(a, "aborted") {
-        let task = word::<Task>(b)?;
+        let task = word::<TaskWord>(b)?;
         let cause = cause_of(c).ok_or(Reason::Word)?;
         return Ok(Answer::Aborted { task, cause });
     }

@@ -1,3 +1,3 @@
 pub mod Blank
-pub mod Halves
+pub mod HalfWords
 pub mod WordLemmas

@@ -16,6 +16,7 @@ use Rattle.cred_ids.specs.Groups.{IsGroupList}
 use Rattle.cred_ids.specs.Ordered.{in_order}
 use Rattle.cred_ids.proofs.InOrder.{in_order-is}
 use Rattle.cred_ids.specs.Limits.{GROUP_LIMIT}
+use Rattle.cred_caps.specs.Secure.{LAST_BITS}
 use Rattle.cred_record.specs.Credential.{Credential, AreValidSets}
 use Rattle.cred_record.specs.Words.{pair, low, high, group_words, unpaired, words_of, credential_in, ids_of, group_count, are_ids, are_groups, are_sets}
 use Rattle.cred_record.specs.Words.{is_credential, IsCredential, are_words}
@@ -78,12 +79,12 @@ length-words_of c = omega (arith, length-group_words (WORDS - GROUPS) c.groups)
 
 -- ---- the word of flags
 
-pub or-flags : (count nnp bits : ℕ) → count ≤ GROUP_LIMIT → nnp < 2 → bits < 256
+pub or-flags : (count nnp bits : ℕ) → count ≤ GROUP_LIMIT → nnp < 2 → bits ≤ LAST_BITS
     → bit_or (count * 2 ^ 16 % 2 ^ 64) (bit_or (nnp * 2 ^ 8 % 2 ^ 64) bits) ≡ count * 2 ^ 16 + (nnp * 2 ^ 8 + bits)
 or-flags count nnp bits few one small =
     ap (λ x. bit_or x (bit_or (nnp * 2 ^ 8 % 2 ^ 64) bits)) (shl_whole count 16 16 64 (omega arith) (omega arith)) ∙
     ap (λ x. bit_or (count * 2 ^ 16) (bit_or x bits)) (shl_whole nnp 1 8 64 (omega arith) (omega arith)) ∙
-    ap (λ x. bit_or (count * 2 ^ 16) x) (or_shifted nnp 8 bits small) ∙
+    ap (λ x. bit_or (count * 2 ^ 16) x) (or_shifted nnp 8 bits (omega arith)) ∙
     or_shifted count 16 (nnp * 2 ^ 8 + bits) (omega arith)
 
 pub from_bool-small : (b : Bool) → from_bool b < 2
@@ -195,7 +196,7 @@ pub record IsValid (c : Credential) : Type 0 where
   pub gid : AllIds c.gid
   pub groups : AllGroups c.groups
   pub sets : AllSets c
-  pub bits : c.bits < 256
+  pub bits : c.bits ≤ LAST_BITS
   pub ns : c.ns < 2 ^ 32
   pub root : c.root < NO_ID
 
@@ -213,7 +214,7 @@ credential-is c is =
       gid = ids-are _ h1.1;
       groups = groups-are _ h2.1;
       sets = sets-are c h3.1;
-      bits = ltb-true _ _ h4.1;
+      bits = leb-true _ _ h4.1;
       ns = ltb-true _ _ h5.1;
       root = ltb-true _ _ h6.1;
     }
@@ -223,7 +224,7 @@ unfolding is_credential
 credential-test c h =
     both_true
     (both_true
-    (both_true (both_true (both_true (both_true (ids-test _ h.uid) (ids-test _ h.gid)) (groups-test _ h.groups)) (sets-test c h.sets)) (lt-ltb _ _ h.bits))
+    (both_true (both_true (both_true (both_true (ids-test _ h.uid) (ids-test _ h.gid)) (groups-test _ h.groups)) (sets-test c h.sets)) (le-leb _ _ h.bits))
     (lt-ltb _ _ h.ns))
     (lt-ltb _ _ h.root)
 
@@ -241,14 +242,14 @@ ids-again i h k = record {
   fs = high-pair i.saved i.fs (omega (arith, h.saved)) k;
 }
 
-bits-again : (n f b : ℕ) → b < 256 → (n * 2 ^ 16 + (f * 2 ^ 8 + b)) % 2 ^ 8 ≡ b
+bits-again : (n f b : ℕ) → b ≤ LAST_BITS → (n * 2 ^ 16 + (f * 2 ^ 8 + b)) % 2 ^ 8 ≡ b
 bits-again n f b small = omega arith
 
-nnp-again : (n b : ℕ) (f : Bool) → b < 256 → ((n * 2 ^ 16 + (from_bool f * 2 ^ 8 + b)) / 2 ^ 8 % 2 == 1) ≡ f
+nnp-again : (n b : ℕ) (f : Bool) → b ≤ LAST_BITS → ((n * 2 ^ 16 + (from_bool f * 2 ^ 8 + b)) / 2 ^ 8 % 2 == 1) ≡ f
 nnp-again n b true small = let is : (n * 2 ^ 16 + (1 * 2 ^ 8 + b)) / 2 ^ 8 % 2 ≡ 1 = omega arith in eq-eqb _ _ is
 nnp-again n b false small = let is : (n * 2 ^ 16 + (0 * 2 ^ 8 + b)) / 2 ^ 8 % 2 ≡ 0 = omega arith in ap (λ k. k == 1) is
 
-count-again : (n f b : ℕ) → f < 2 → b < 256 → (n * 2 ^ 16 + (f * 2 ^ 8 + b)) / 2 ^ 16 ≡ n
+count-again : (n f b : ℕ) → f < 2 → b ≤ LAST_BITS → (n * 2 ^ 16 + (f * 2 ^ 8 + b)) / 2 ^ 16 ≡ n
 count-again n f b one small = omega arith
 
 pub again : (c : Credential) → IsValid c → credential_in (words_of c) ≡ c

@@ -10,6 +10,7 @@ use Rattle.cred_ids.specs.Id.{NO_ID}
 use Rattle.cred_ids.specs.Ordered.{in_order}
 use Rattle.cred_ids.specs.Limits.{GROUP_LIMIT}
 use Rattle.cred_caps.specs.Caps.{Caps, is_within}
+use Rattle.cred_caps.specs.Secure.{LAST_BITS}
 use Rattle.cred_record.specs.Credential.{Credential, AreValidSets}
 use Rattle.cred_record.specs.declared.layout.TheConstants.{WORDS, USER, SAVED_USER, GROUP}
 use Rattle.cred_record.specs.declared.layout.TheConstants.{SAVED_GROUP, PERMITTED, INHERITABLE}
@@ -22,7 +23,8 @@ use Rattle.cred_record.specs.declared.layout.TheConstants.{NAMESPACE, ROOT, GROU
 abbrev pub pair : ℕ → ℕ → ℕ
 pair low high = high * 2 ^ 32 + low
 
--- the securebits in bits 0 to 7, no_new_privs in bit 8, the number of groups in bits 16 to 31
+-- the securebits in bits 0 to 7, as many as `LAST_BITS` has, no_new_privs in bit 8, the number of
+-- groups in bits 16 to 31
 abbrev pub flags_word : Credential → ℕ
 flags_word c = length c.groups * 2 ^ 16 + (from_bool c.nnp * 2 ^ 8 + c.bits)
 
@@ -88,7 +90,7 @@ is_credential c =
     are_ids c.gid &&
     are_groups c.groups &&
     are_sets c &&
-    nat_lt c.bits 256 &&
+    nat_le c.bits LAST_BITS &&
     nat_lt c.ns (2 ^ 32) &&
     nat_lt c.root NO_ID
 

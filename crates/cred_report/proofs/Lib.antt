@@ -1,5 +1,5 @@
 mod Digits
-mod LastDigit
+mod Decimal
 mod Pieces
 pub mod Journals
 pub mod Hex

@@ -12,8 +12,8 @@ use Rattle.cred_event.specs.declared.event.Event.TheVariants.{OpenFile, CloseFil
 use Rattle.cred_event.specs.declared.event.Event.TheVariants.{Exit, Sweep, Dumpable, Dumped}
 use Rattle.cred_event.specs.declared.event.Event.TheVariants.{Ptrace, Chown, Chmod, SetAttr, Stat}
 use Rattle.cred_event.specs.declared.event.Event.TheVariants.{Raw}
-use Rattle.cred_event.specs.declared.event.Mode.{Mode}
-use Rattle.cred_event.specs.declared.event.Mode.TheVariants.{Fs, Real}
+use Rattle.cred_record.specs.declared.mode.PtraceMode.{PtraceMode}
+use Rattle.cred_record.specs.declared.mode.PtraceMode.TheVariants.{Fs, Real}
 use Rattle.cred_model.specs.Script.{Script}
 use Rattle.cred_report.specs.Questions.{file_text, want_text, query_text}
 use Rattle.cred_report.specs.Numbers.{arg_text}
@@ -26,7 +26,7 @@ take_text Subjective = codes "take h"
 take_text Objective = codes "takereal h"
 
 -- what comes before the task that asks to look into another
-abbrev pub trace_text : Mode → List ℕ
+abbrev pub trace_text : PtraceMode → List ℕ
 trace_text Fs = codes "ptrace fs t"
 trace_text Real = codes "ptrace real t"
 

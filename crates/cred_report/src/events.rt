@@ -9,9 +9,9 @@ use crate::file_events::{prepend_chmod, prepend_chown, prepend_set_attr, prepend
 use crate::pen::Pen;
 use crate::questions::{prepend_file, prepend_letters, prepend_query};
 use crate::words::{prepend_label, prepend_number, prepend_three, prepend_two, prepend_word};
-use cred_event::{Change, Event, Mode, Query, Side};
+use cred_event::{Change, Event, Query, Side};
 use cred_ids::{Id, NoMemory};
-use cred_record::{IdCall, Want};
+use cred_record::{IdCall, PtraceMode, Want};
 use cred_script::Script;
 
 /// Writes the creation of a first task.
@@ -73,7 +73,7 @@ fn prepend_signal(out: &mut Pen, from: u32, hold: u32, to: u32, target: u32)
 
 /// Writes the question whether a task may look into another, each followed by the label that holds
 /// its credential.
-fn prepend_ptrace(out: &mut Pen, from: u32, hold: u32, to: u32, target: u32, mode: Mode)
+fn prepend_ptrace(out: &mut Pen, from: u32, hold: u32, to: u32, target: u32, mode: PtraceMode)
     requires { EVENT ≤ out.old.room }
     ensures text { out.new.text
         ≡ (trace_text mode ++ decimal from ++ codes " h" ++ decimal hold
@@ -83,8 +83,8 @@ fn prepend_ptrace(out: &mut Pen, from: u32, hold: u32, to: u32, target: u32, mod
     prepend_two(out, (" t", to), (" h", target));
     prepend_two(out, ("", from), (" h", hold));
     match mode {
-        Mode::Fs => prepend_word(out, "ptrace fs t"),
-        Mode::Real => prepend_word(out, "ptrace real t"),
+        PtraceMode::Fs => prepend_word(out, "ptrace fs t"),
+        PtraceMode::Real => prepend_word(out, "ptrace real t"),
     }
 }
 

@@ -158,7 +158,7 @@ impl Pen {
     /// Writes the number before the text, in decimal. Most numbers of a report have one digit or
     /// two, which need no call.
     #[inline(always)]
-    #[tactic(auto, using(std::proofs::lemmas::Fmt::decimal_digit, crate::proofs::LastDigit::two_digits))]
+    #[tactic(auto, using(std::proofs::lemmas::Fmt::decimal_digit, crate::proofs::Decimal::of_two))]
     pub fn number(&mut self, number: u64)
         requires { NUMBER ≤ self.old.room }
         ensures text { self.new.text ≡ decimal number ++ self.old.text }

@@ -10,16 +10,13 @@ use Rattle.cred_caps.specs.declared.secure.Flag.TheVariants.{NoRoot, NoSetuidFix
 use Rattle.cred_caps.specs.declared.secure.Flag.TheVariants.{NoAmbientRaise}
 use Rattle.cred_caps.specs.Caps.{Caps, empty, has, with, without, union, meet, is_within}
 use Rattle.cred_caps.specs.Numbers.{LAST, SETPCAP}
-use Rattle.cred_caps.specs.Secure.{flag_place, is_set, is_locked, with_secure_flag}
+use Rattle.cred_caps.specs.Secure.{LAST_BITS, flag_place, is_set, is_locked}
+use Rattle.cred_caps.specs.Secure.{with_secure_flag}
 use Rattle.cred_record.specs.declared.adj_call.AdjCall.{AdjCall}
 use Rattle.cred_record.specs.declared.adj_call.AdjCall.TheVariants as call
 use Rattle.cred_record.specs.declared.refusal.Denial.{Denial}
 use Rattle.cred_record.specs.declared.refusal.Denial.TheVariants.{Perm, Invalid}
 use Rattle.cred_record.specs.Credential.{Credential, capable}
-
--- the greatest number of securebits with no bit above the eight
-abbrev pub LAST_BITS : ℕ
-LAST_BITS = 255
 
 -- n is the number of no capability
 abbrev pub is_no_cap : ℕ → Bool

@@ -6,6 +6,7 @@ pub mod Exec
 pub mod Files
 pub mod Fix
 pub mod Modes
+pub mod Ptrace
 pub mod SetFs
 pub mod SetId
 pub use Rattle.cred_record.specs.Credential

@@ -13,9 +13,9 @@ use Rattle.cred_model.specs.Script.{Script}
 use Rattle.cred_model.specs.Journal.{IsLegal}
 use Rattle.cred_report.specs.Text.{entry_text, text}
 use Rattle.cred_report.proofs.Journals.{take_past}
-use Rattle.cred_said.specs.Ends.{status_after}
-use Rattle.cred_said.specs.declared.status.Status.TheVariants as status
-use Rattle.cred_said.proofs.Prefixes.{refused_apart, whole}
+use Rattle.cred_output.specs.Ends.{status_after}
+use Rattle.cred_output.specs.declared.status.Status.TheVariants as status
+use Rattle.cred_output.proofs.Prefixes.{refused_apart, whole}
 use Rattle.cred_book.specs.Parts.{BeginsLegal}
 use Rattle.cred_book.proofs.Rest.{begins_at_all}
 use Rattle.cred_runs.specs.Legal.{AppendsLegal, BeginsLegalText}

@@ -1,16 +1,16 @@
 //! Running a script's lanes as threads, and writing the report of their journal in parts.
 ghost use Rattle.std.specs.Prelude.{◌≡◌, [], true, OnOk, OnErr};
 ghost use Rattle.cred_io.specs.Causes.{CountsFaults};
-ghost use Rattle.cred_said.specs.Ends.{IsForText};
-ghost use Rattle.cred_said.specs.Leaves.{IsWriting};
+ghost use Rattle.cred_output.specs.Ends.{IsForText};
+ghost use Rattle.cred_output.specs.Leaves.{IsWriting};
 ghost use Rattle.cred_kernel.specs.Turns.{AreAllTurns, NoWorkIsOut};
 ghost use Rattle.cred_runs.specs.Legal.{AppendsLegal, BeginsLegalText};
 
 use cred_io::{Sink, SinkRefusal};
-use cred_kernel::{Gate, Name, Parts, Rest, TurnList};
+use cred_kernel::{Gate, KernelParts, Name, Rest, TurnList};
 use cred_lanes::run_part;
+use cred_output::{Status, finish, write_entries, write_last};
 use cred_report::Pen;
-use cred_said::{Status, finish, write_entries, write_last};
 use cred_script::Script;
 use std::alloc::Global;
 use std::marker::Brand;
@@ -34,7 +34,7 @@ pub(crate) fn report<R: Threads + Wait + Sync, K: Sink, G: Gate + Sync>(
         → AppendsLegal script (K.written sink.old) (K.written sink.new) }
     ensures prefix { BeginsLegalText script (K.written sink.old) (K.written sink.new) }
     ensures only { IsForText result }
-    ensures writing { IsWriting result (K.handed_on sink.new)
+    ensures writing { IsWriting result (K.flushed sink.new)
         (K.faults sink.old) (K.faults sink.new) }
 {
     finish(write_lanes(rt, alloc, sink, script, gate), Status::Done)
@@ -44,8 +44,8 @@ pub(crate) fn report<R: Threads + Wait + Sync, K: Sink, G: Gate + Sync>(
 ///
 /// # Errors
 ///
-/// The sink's refusal, and `Memory` if an allocation fails, in the threads too: a prefix of the text
-/// of one legal journal was written.
+/// The sink's refusal, and `Memory` if an allocation fails, in the threads too: a prefix of the
+/// text of one legal journal was written.
 fn write_lanes<R: Threads + Wait + Sync, K: Sink, G: Gate + Sync>(
     rt: &R,
     alloc: Global,
@@ -56,11 +56,11 @@ fn write_lanes<R: Threads + Wait + Sync, K: Sink, G: Gate + Sync>(
     ensures ok { OnOk result (AppendsLegal script (K.written sink.old) (K.written sink.new)) }
     ensures err { OnErr result
         (BeginsLegalText script (K.written sink.old) (K.written sink.new)) }
-    ensures handed_on { OnOk result (K.handed_on sink.new ≡ true) }
+    ensures flushed { OnOk result (K.flushed sink.new ≡ true) }
     ensures cause { CountsFaults (result ≡ Err SinkRefusal.Failed)
         (K.faults sink.old) (K.faults sink.new) }
 {
-    let Ok(parts) = Parts::new(alloc, script) else {
+    let Ok(parts) = KernelParts::new(alloc, script) else {
         return Err(SinkRefusal::Memory);
     };
     write_named::<Brand, R, K, G>(rt, alloc, sink, parts, gate)
@@ -71,17 +71,17 @@ fn write_named<N: Name + Send + Sync, R: Threads + Wait + Sync, K: Sink, G: Gate
     rt: &R,
     alloc: Global,
     sink: &mut K,
-    parts: Parts,
+    parts: KernelParts,
     gate: &G,
 ) -> Result<(), SinkRefusal>
     requires script { parts.script ≡ N.script }
     requires roll { parts.roll ≡ N.roll }
     requires cells { parts.cells ≡ N.cells }
-    requires infos { parts.infos ≡ N.infos }
+    requires inodes { parts.inodes ≡ N.inodes }
     ensures ok { OnOk result (AppendsLegal N.script (K.written sink.old) (K.written sink.new)) }
     ensures err { OnErr result
         (BeginsLegalText N.script (K.written sink.old) (K.written sink.new)) }
-    ensures handed_on { OnOk result (K.handed_on sink.new ≡ true) }
+    ensures flushed { OnOk result (K.flushed sink.new ≡ true) }
     ensures cause { CountsFaults (result ≡ Err SinkRefusal.Failed)
         (K.faults sink.old) (K.faults sink.new) }
 {
@@ -96,8 +96,8 @@ fn write_named<N: Name + Send + Sync, R: Threads + Wait + Sync, K: Sink, G: Gate
 ///
 /// # Errors
 ///
-/// The sink's refusal, and `Memory` if an allocation fails, in the threads too: a prefix of the text
-/// of one legal journal was written.
+/// The sink's refusal, and `Memory` if an allocation fails, in the threads too: a prefix of the
+/// text of one legal journal was written.
 fn write_parts<N: Name + Send + Sync, R: Threads + Wait + Sync, K: Sink, G: Gate + Sync>(
     rt: &R,
     alloc: Global,
@@ -112,7 +112,7 @@ fn write_parts<N: Name + Send + Sync, R: Threads + Wait + Sync, K: Sink, G: Gate
     ensures ok { OnOk result (AppendsLegal N.script (K.written sink.old) (K.written sink.new)) }
     ensures err { OnErr result
         (BeginsLegalText N.script (K.written sink.old) (K.written sink.new)) }
-    ensures handed_on { OnOk result (K.handed_on sink.new ≡ true) }
+    ensures flushed { OnOk result (K.flushed sink.new ≡ true) }
     ensures cause { CountsFaults (result ≡ Err SinkRefusal.Failed)
         (K.faults sink.old) (K.faults sink.new) }
 {

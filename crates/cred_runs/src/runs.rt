@@ -2,12 +2,12 @@
 ghost use Rattle.std.specs.Prelude.{◌≡◌, ◌⊎◌};
 ghost use Rattle.cred_ids.specs.Limits.{BYTE_LIMIT};
 ghost use Rattle.cred_model.specs.Journal.{IsLegal};
-ghost use Rattle.cred_said.specs.Leaves.{IsReading, IsWriting, LeavesReport};
+ghost use Rattle.cred_output.specs.Leaves.{IsReading, IsWriting, LeavesReport};
 
 use crate::report::report;
 use cred_io::{Sink, Source};
 use cred_lanes::Gate;
-use cred_said::{Status, read_script};
+use cred_output::{Status, read_script};
 use std::alloc::Global;
 use std::sync::Wait;
 use std::thread::Threads;
@@ -26,7 +26,7 @@ pub fn read_and_lanes<R: Threads + Wait + Sync, S: Source, K: Sink, G: Gate + Sy
         (K.written sink.old) (K.written sink.new) }
     ensures reading { IsReading BYTE_LIMIT result (S.left source.old) (S.left source.new)
         (S.faults source.old) (S.faults source.new) }
-    ensures writing { IsWriting result (K.handed_on sink.new)
+    ensures writing { IsWriting result (K.flushed sink.new)
         (K.faults sink.old) (K.faults sink.new) }
     ensures silent { (result ≡ Status.ReadFault) ⊎ (result ≡ Status.TooLarge)
         → sink.new ≡ sink.old }

@@ -21,7 +21,7 @@ fn has_root(root: Id, ids: &Ids4) -> bool
 
 /// The sets that a change of the user ids may change.
 #[derive(Clone, Copy)]
-struct Sets {
+struct FixedSets {
     perm: CapSet,
     eff: CapSet,
     amb: CapSet,
@@ -30,7 +30,7 @@ struct Sets {
 /// The sets that a credential with these parts has with these user ids.
 #[inline(always)]
 #[tactic(auto, unfolding(cred_rules::specs::Fix::with_user_ids))]
-fn fixed(own: &IdParts, ids: &Ids4) -> Sets
+fn fixed(own: &IdParts, ids: &Ids4) -> FixedSets
     ensures sets { (c : Credential) → with_user_ids (alike c own.now) ids.now
         ≡ record (alike c own.now) {
           uid = ids.now;
@@ -42,7 +42,7 @@ fn fixed(own: &IdParts, ids: &Ids4) -> Sets
         AreValidSets result.perm inh result.eff result.amb }
 {
     if own.bits.flag(Flag::NoSetuidFixup) {
-        return Sets {
+        return FixedSets {
             perm: own.perm,
             eff: own.eff,
             amb: own.amb,
@@ -61,7 +61,7 @@ fn fixed(own: &IdParts, ids: &Ids4) -> Sets
     } else {
         own.eff
     };
-    Sets { perm, eff, amb }
+    FixedSets { perm, eff, amb }
 }
 
 /// Gives the parts these user ids, and the sets that they then have.

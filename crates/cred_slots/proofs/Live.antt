@@ -12,7 +12,7 @@ use Rattle.cred_slots.specs.Flags.{in_either, first_unset}
 use Rattle.cred_slots.specs.Rows.{row_at, repeated, held_in, held_count, late_count, AreSoundRows}
 use Rattle.cred_slots.proofs.Counting.{weight, any-count, count-repeated, sum_only}
 use Rattle.cred_slots.proofs.Tables.{room-free, room-full}
-use Rattle.cred_ids.specs.Limits.{slots}
+use Rattle.cred_ids.specs.Limits.{SLOTS, slots}
 
 -- Two tests that agree below the end find the same.
 pub find-same : (p q : ℕ → Bool) (a n : ℕ) → ((k : ℕ) → a ≤ k → k < a + n → p k ≡ q k) → find p (range_with_len a n) ≡ find q (range_with_len a n)
@@ -47,9 +47,9 @@ weight_elsewhere sealed count row slot i ne stands = elim (cases_lt 0 (count row
 ]
 
 -- A row counts the references to all numbers in its slot.
-count-in_slot : (rows : List Row) (sealed : List ℕ) (count : Row → ℕ) → length rows ≡ 256
-    → ((slot : ℕ) → slot < 256 → 0 < count (row_at rows slot) → slice_get sealed (row_at rows slot).number ≡ Some slot)
-    → (slot : ℕ) → slot < 256 → count_by (is_sealed_in sealed slot) (repeated count rows) ≡ count (row_at rows slot)
+count-in_slot : (rows : List Row) (sealed : List ℕ) (count : Row → ℕ) → length rows ≡ SLOTS
+    → ((slot : ℕ) → slot < SLOTS → 0 < count (row_at rows slot) → slice_get sealed (row_at rows slot).number ≡ Some slot)
+    → (slot : ℕ) → slot < SLOTS → count_by (is_sealed_in sealed slot) (repeated count rows) ≡ count (row_at rows slot)
 count-in_slot rows sealed count long stands slot within =
     count-repeated count (is_sealed_in sealed slot) rows
     ∙ sum_only (weight count (is_sealed_in sealed slot)) rows slot (omega arith)
@@ -58,13 +58,13 @@ count-in_slot rows sealed count long stands slot within =
 
 pub held-in_slot : {rows : List Row} {sealed deferred : List ℕ} {kept used late : List Bool} {held spare sealable referable : ℕ}
     → AreSoundRows rows sealed deferred kept used late held spare sealable referable
-    → (slot : ℕ) → slot < 256 → count_by (is_sealed_in sealed slot) (held_in rows) ≡ (row_at rows slot).held
+    → (slot : ℕ) → slot < SLOTS → count_by (is_sealed_in sealed slot) (held_in rows) ≡ (row_at rows slot).held
 held-in_slot {rows = rows} {sealed = sealed} s slot within =
     count-in_slot rows sealed held_count s.all_rows (λ k h some. s.stands k h (omega arith)) slot within
 
 pub late-in_slot : {rows : List Row} {sealed deferred : List ℕ} {kept used late : List Bool} {held spare sealable referable : ℕ}
     → AreSoundRows rows sealed deferred kept used late held spare sealable referable
-    → (slot : ℕ) → slot < 256 → count_by (is_sealed_in sealed slot) deferred ≡ (row_at rows slot).late
+    → (slot : ℕ) → slot < SLOTS → count_by (is_sealed_in sealed slot) deferred ≡ (row_at rows slot).late
 late-in_slot {rows = rows} {sealed = sealed} s slot within =
     s.given_up.counts (is_sealed_in sealed slot)
     ∙ count-in_slot rows sealed late_count s.all_rows (λ k h some. s.stands k h (omega arith)) slot within
@@ -89,7 +89,7 @@ seen rows sealed deferred kept spare = record { sealed = sealed; held = held_in 
 
 pub live-by_flags : {rows : List Row} {sealed deferred : List ℕ} {kept used late : List Bool} {held spare sealable referable : ℕ}
     → AreSoundRows rows sealed deferred kept used late held spare sealable referable
-    → (slot : ℕ) → slot < 256 → is_live_in (seen rows sealed deferred kept spare) slot ≡ in_either (map (in_either kept used) slots) late slot
+    → (slot : ℕ) → slot < SLOTS → is_live_in (seen rows sealed deferred kept spare) slot ≡ in_either (map (in_either kept used) slots) late slot
 unfolding slots
 live-by_flags {rows = rows} {sealed = sealed} {deferred = deferred} {kept = kept} {used = used} {late = late} s slot within =
     let test : ℕ → Bool = is_sealed_in sealed slot in
@@ -97,12 +97,12 @@ live-by_flags {rows = rows} {sealed = sealed} {deferred = deferred} {kept = kept
     any-count test (held_in rows) ∙ ap (nat_lt 0) (held-in_slot s slot within) ∙ sym (s.is_used.each slot within) in
     let l : list_any test deferred ≡ get_or late slot false =
     any-count test deferred ∙ ap (nat_lt 0) (late-in_slot s slot within) ∙ sym (s.is_late.each slot within) in
-    rw (list_any-append test (held_in rows) deferred, u, l, get_or-map-range_with_len (in_either kept used) 0 256 slot slot false within (omega arith))
+    rw (list_any-append test (held_in rows) deferred, u, l, get_or-map-range_with_len (in_either kept used) 0 SLOTS slot slot false within (omega arith))
     (reorder (get_or used slot false) (get_or late slot false) (get_or kept slot false))
 
 pub live-once_swept : {rows : List Row} {sealed deferred : List ℕ} {kept used late : List Bool} {held spare sealable referable : ℕ}
     → AreSoundRows rows sealed deferred kept used late held spare sealable referable
-    → (slot : ℕ) → slot < 256 → is_live_in (seen rows sealed [] kept spare) slot ≡ in_either kept used slot
+    → (slot : ℕ) → slot < SLOTS → is_live_in (seen rows sealed [] kept spare) slot ≡ in_either kept used slot
 live-once_swept {rows = rows} {sealed = sealed} {deferred = deferred} {kept = kept} {used = used} {late = late} s slot within =
     let test : ℕ → Bool = is_sealed_in sealed slot in
     let u : list_any test (held_in rows) ≡ get_or used slot false =
@@ -115,16 +115,16 @@ pub least-by_flags : {rows : List Row} {sealed deferred : List ℕ} {kept used l
 unfolding slots
 least-by_flags {rows = rows} {sealed = sealed} {deferred = deferred} {kept = kept} {used = used} {late = late} {spare = spare} s =
     let both : ℕ → Bool = in_either (map (in_either kept used) slots) late in
-    find-same (λ slot. not (get_or (map both slots) slot false)) (λ slot. not (is_live_in (seen rows sealed deferred kept spare) slot)) 0 256
-    (λ k l h. ap not (get_or-map-range_with_len both 0 256 k k false (omega arith) (omega arith) ∙ sym (live-by_flags s k (omega arith))))
+    find-same (λ slot. not (get_or (map both slots) slot false)) (λ slot. not (is_live_in (seen rows sealed deferred kept spare) slot)) 0 SLOTS
+    (λ k l h. ap not (get_or-map-range_with_len both 0 SLOTS k k false (omega arith) (omega arith) ∙ sym (live-by_flags s k (omega arith))))
 
 pub least-once_swept : {rows : List Row} {sealed deferred : List ℕ} {kept used late : List Bool} {held spare sealable referable : ℕ}
     → AreSoundRows rows sealed deferred kept used late held spare sealable referable
     → first_unset (map (in_either kept used) slots) ≡ least_free_in (seen rows sealed [] kept spare)
 unfolding slots
 least-once_swept {rows = rows} {sealed = sealed} {kept = kept} {used = used} {spare = spare} s =
-    find-same (λ slot. not (get_or (map (in_either kept used) slots) slot false)) (λ slot. not (is_live_in (seen rows sealed [] kept spare) slot)) 0 256
-    (λ k l h. ap not (get_or-map-range_with_len (in_either kept used) 0 256 k k false (omega arith) (omega arith) ∙ sym (live-once_swept s k (omega arith))))
+    find-same (λ slot. not (get_or (map (in_either kept used) slots) slot false)) (λ slot. not (is_live_in (seen rows sealed [] kept spare) slot)) 0 SLOTS
+    (λ k l h. ap not (get_or-map-range_with_len (in_either kept used) 0 SLOTS k k false (omega arith) (omega arith) ∙ sym (live-once_swept s k (omega arith))))
 
 none_set : (a b c : Bool) → not ((a || b) || c) ≡ true → (a ≡ false) × (b ≡ false)
 none_set true b c e = cc
@@ -153,11 +153,11 @@ find-passes test a (suc n) s e = elim (some_is (test a) a s (find test (range_wi
 pub least-is : {rows : List Row} {sealed deferred : List ℕ} {kept used late : List Bool} {held spare sealable referable : ℕ}
     → AreSoundRows rows sealed deferred kept used late held spare sealable referable
     → (slot : ℕ) → least_free_in (seen rows sealed deferred kept spare) ≡ Some slot
-    → (slot < 256) × ((row_at rows slot).held + (row_at rows slot).late ≡ 0)
+    → (slot < SLOTS) × ((row_at rows slot).held + (row_at rows slot).late ≡ 0)
 unfolding slots
 least-is {rows = rows} {sealed = sealed} {deferred = deferred} {kept = kept} {used = used} {late = late} {spare = spare} s slot e =
-    let found = find-passes (λ k. not (is_live_in (seen rows sealed deferred kept spare) k)) 0 256 slot e in
-    let within : slot < 256 = omega (arith, found.0) in
+    let found = find-passes (λ k. not (is_live_in (seen rows sealed deferred kept spare) k)) 0 SLOTS slot e in
+    let within : slot < SLOTS = omega (arith, found.0) in
     let test : ℕ → Bool = is_sealed_in sealed slot in
     let u : list_any test (held_in rows) ≡ nat_lt 0 (row_at rows slot).held = any-count test (held_in rows) ∙ ap (nat_lt 0) (held-in_slot s slot within) in
     let l : list_any test deferred ≡ nat_lt 0 (row_at rows slot).late = any-count test deferred ∙ ap (nat_lt 0) (late-in_slot s slot within) in
@@ -183,7 +183,7 @@ find-fails test a (suc n) s none low high =
 -- It is free at once, and then nothing was given up in it, or all slots are live until a sweep, and
 -- then something was.
 pub record IsNext (t : Table) (late slot : ℕ) : Type 0 where
-  pub within : slot < 256
+  pub within : slot < SLOTS
   pub at_once : late ≡ 0 → least_free_in t ≡ Some slot
   pub all_live : 0 < late → (least_free_in t ≡ None) × (least_free_in (swept_table t) ≡ Some slot)
 
@@ -210,9 +210,9 @@ next-is {rows = rows} {sealed = sealed} {deferred = deferred} {kept = kept} {use
         let t = seen rows sealed deferred kept spare in
         let test : ℕ → Bool = is_sealed_in sealed slot in
         let later : least_free_in (swept_table t) ≡ Some slot = sym (ap least_free_in (room-full t (ap is_some at))) ∙ takes in
-        let found = find-passes (λ k. not (is_live_in (swept_table t) k)) 0 256 slot later in
-        let within : slot < 256 = omega (arith, found.0) in
-        let live : not (is_live_in t slot) ≡ false = find-fails (λ k. not (is_live_in t k)) 0 256 slot at (omega arith) within in
+        let found = find-passes (λ k. not (is_live_in (swept_table t) k)) 0 SLOTS slot later in
+        let within : slot < SLOTS = omega (arith, found.0) in
+        let live : not (is_live_in t slot) ≡ false = find-fails (λ k. not (is_live_in t k)) 0 SLOTS slot at (omega arith) within in
         let given_up : list_any test deferred ≡ nat_lt 0 (row_at rows slot).late = any-count test deferred ∙ ap (nat_lt 0) (late-in_slot s slot within) in
         record {
           within = within;

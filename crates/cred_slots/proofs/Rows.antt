@@ -5,8 +5,8 @@ use Rattle.std.specs.List.{count_by}
 use Rattle.std.proofs.lemmas.List.{length-map, take-append-le, take_all}
 use Rattle.std.proofs.lemmas.List.FromFn.{length-map-range_with_len, get_or-map-range_with_len}
 use Rattle.cred_slots.specs.declared.row.Row.{Row}
-use Rattle.cred_ids.specs.Limits.{slots}
-use Rattle.cred_slots.specs.Rows.{row_at, repeated, held_in, late_in, held_count, late_count, without_late, unused, AreSoundRows}
+use Rattle.cred_ids.specs.Limits.{SLOTS, slots}
+use Rattle.cred_slots.specs.Rows.{row_at, repeated, held_in, deferred_in, held_count, late_count, without_late, unused, AreSoundRows}
 
 pub map-is : (f : Row → Row) (xs ys : List Row) → length ys ≡ length xs → ((k : ℕ) → k < length xs → row_at ys k ≡ f (row_at xs k)) → ys ≡ map f xs
 map-is f [] [] long each = refl
@@ -26,17 +26,17 @@ pub held_in-map : (rows : List Row) → held_in (map without_late rows) ≡ held
 held_in-map [] = refl
 held_in-map (row ∷ rows) = ap (λ (rest : List ℕ). replicate row.held row.number ++ rest) (held_in-map rows)
 
-pub late_in-map : (rows : List Row) → late_in (map without_late rows) ≡ []
-late_in-map [] = refl
-late_in-map (row ∷ rows) = late_in-map rows
+pub deferred_in-map : (rows : List Row) → deferred_in (map without_late rows) ≡ []
+deferred_in-map [] = refl
+deferred_in-map (row ∷ rows) = deferred_in-map rows
 
-pub no_flag : (slot : ℕ) → slot < 256 → get_or (map (λ _. false) slots) slot false ≡ false
+pub no_flag : (slot : ℕ) → slot < SLOTS → get_or (map (λ _. false) slots) slot false ≡ false
 unfolding slots
-no_flag slot within = get_or-map-range_with_len (λ _. false) 0 256 slot slot false within (omega arith)
+no_flag slot within = get_or-map-range_with_len (λ _. false) 0 SLOTS slot slot false within (omega arith)
 
-pub flags_long : length (map (λ _. false) slots) ≡ 256
+pub flags_long : length (map (λ _. false) slots) ≡ SLOTS
 unfolding slots
-flags_long = length-map-range_with_len (λ _. false) 0 256
+flags_long = length-map-range_with_len (λ _. false) 0 SLOTS
 
 pub sweep-sound : {rows : List Row} {sealed deferred : List ℕ} {kept used late : List Bool} {held spare sealable referable : ℕ}
     → AreSoundRows rows sealed deferred kept used late held spare sealable referable
@@ -49,7 +49,7 @@ sweep-sound {rows = rows} {deferred = deferred} s = record {
   places = s.places;
   stands = λ k h. rw (row_at-map rows k) (λ some. s.stands k h (omega arith));
   keeps = λ k h is. rw (row_at-map rows k) (omega (arith, s.keeps k h is));
-  given_up = record { counts = λ test. rw (late_in-map rows) refl };
+  given_up = record { counts = λ test. rw (deferred_in-map rows) refl };
   counted = ap length (held_in-map rows) ∙ s.counted;
   seals = s.seals;
   refers = omega (arith, s.refers);
@@ -66,17 +66,17 @@ repeated-replicate count zero none = refl
 repeated-replicate count (suc n) none = rw none (repeated-replicate count n none)
 
 pub new-sound : (sealable referable : ℕ)
-    → AreSoundRows (replicate 256 unused) [] [] (map (λ _. false) slots) (map (λ _. false) slots) (map (λ _. false) slots) 0 0 sealable referable
+    → AreSoundRows (replicate SLOTS unused) [] [] (map (λ _. false) slots) (map (λ _. false) slots) (map (λ _. false) slots) 0 0 sealable referable
 new-sound sealable referable = record {
   all_rows = refl;
   all_kept = flags_long;
-  is_used = record { long = flags_long; each = λ k h. no_flag k h ∙ ap (λ (r : Row). nat_lt 0 r.held) (sym (row_at-replicate 256 k)) };
-  is_late = record { long = flags_long; each = λ k h. no_flag k h ∙ ap (λ (r : Row). nat_lt 0 r.late) (sym (row_at-replicate 256 k)) };
+  is_used = record { long = flags_long; each = λ k h. no_flag k h ∙ ap (λ (r : Row). nat_lt 0 r.held) (sym (row_at-replicate SLOTS k)) };
+  is_late = record { long = flags_long; each = λ k h. no_flag k h ∙ ap (λ (r : Row). nat_lt 0 r.late) (sym (row_at-replicate SLOTS k)) };
   places = λ n p e. absurd (cc);
-  stands = λ k h. rw (row_at-replicate 256 k) (λ some. absurd (omega arith));
-  keeps = λ k h is. rw (row_at-replicate 256 k) refl;
-  given_up = record { counts = λ test. ap (count_by test) (sym (repeated-replicate late_count 256 refl)) };
-  counted = ap length (repeated-replicate held_count 256 refl);
+  stands = λ k h. rw (row_at-replicate SLOTS k) (λ some. absurd (omega arith));
+  keeps = λ k h is. rw (row_at-replicate SLOTS k) refl;
+  given_up = record { counts = λ test. ap (count_by test) (sym (repeated-replicate late_count SLOTS refl)) };
+  counted = ap length (repeated-replicate held_count SLOTS refl);
   seals = omega arith;
   refers = omega arith;
 }

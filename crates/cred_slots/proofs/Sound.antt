@@ -5,9 +5,10 @@ use Rattle.std.specs.List.{count_by}
 use Rattle.std.proofs.lemmas.List.{get_or_read}
 use Rattle.std.proofs.lemmas.Bool.{cases_lt, cases_eq}
 use Rattle.std.proofs.lemmas.Bool.Decides.{nat_tests}
+use Rattle.cred_ids.specs.Limits.{SLOTS}
 use Rattle.cred_slots.specs.declared.row.Row.{Row}
 use Rattle.cred_slots.specs.Table.{IsSameBag}
-use Rattle.cred_slots.specs.Rows.{row_at, repeated, held_in, late_in, held_count, late_count, IsFlagged, AreSoundRows}
+use Rattle.cred_slots.specs.Rows.{row_at, repeated, held_in, deferred_in, held_count, late_count, IsFlagged, AreSoundRows}
 use Rattle.cred_slots.proofs.Counting.{weight, count-append, count-cons, count-repeated, count-repeated-set, length-repeated-set, count-le-length, sum_some}
 use Rattle.cred_slots.proofs.Counting.{bag_length}
 
@@ -22,8 +23,8 @@ place_read (x ∷ xs) zero slot d e = cc
 place_read (x ∷ xs) (suc number) slot d e = place_read xs number slot d e
 
 -- a value is in the table's part that a flag is for
-each_row-set : (P : ℕ → Row → Type 0) (rows : List Row) (slot : ℕ) (row : Row) → length rows ≡ 256 → slot < 256 → P slot row
-    → ((k : ℕ) → k < 256 → P k (row_at rows k)) → (k : ℕ) → k < 256 → P k (row_at (slice_set rows slot row) k)
+each_row-set : (P : ℕ → Row → Type 0) (rows : List Row) (slot : ℕ) (row : Row) → length rows ≡ SLOTS → slot < SLOTS → P slot row
+    → ((k : ℕ) → k < SLOTS → P k (row_at rows k)) → (k : ℕ) → k < SLOTS → P k (row_at (slice_set rows slot row) k)
 each_row-set P rows slot row long within here others k h = elim (cases_eq k slot) [
   | inl e ↦
       let in_rows : slot < length rows = omega arith in
@@ -31,7 +32,7 @@ each_row-set P rows slot row long within here others k h = elim (cases_eq k slot
   | inr ne ↦ rw (get_or-set_other rows slot k row (row_at [] 0) ne) (others k h)
 ]
 
-IsFlagged-set : (count : Row → ℕ) (flags : List Bool) (rows : List Row) → IsFlagged count flags rows → length rows ≡ 256 → (slot : ℕ) → slot < 256
+IsFlagged-set : (count : Row → ℕ) (flags : List Bool) (rows : List Row) → IsFlagged count flags rows → length rows ≡ SLOTS → (slot : ℕ) → slot < SLOTS
     → (row : Row) (flag : Bool)
     → flag ≡ nat_lt 0 (count row) → IsFlagged count (slice_set flags slot flag) (slice_set rows slot row)
 IsFlagged-set count flags rows is long slot within row flag e = record {
@@ -45,7 +46,7 @@ IsFlagged-set count flags rows is long slot within row flag e = record {
   ];
 }
 
-IsFlagged-keep : (count : Row → ℕ) (flags : List Bool) (rows : List Row) → IsFlagged count flags rows → length rows ≡ 256 → (slot : ℕ) → slot < 256
+IsFlagged-keep : (count : Row → ℕ) (flags : List Bool) (rows : List Row) → IsFlagged count flags rows → length rows ≡ SLOTS → (slot : ℕ) → slot < SLOTS
     → (row : Row)
     → count row ≡ count (row_at rows slot) → IsFlagged count flags (slice_set rows slot row)
 IsFlagged-keep count flags rows is long slot within row e = record {
@@ -54,8 +55,8 @@ IsFlagged-keep count flags rows is long slot within row e = record {
 }
 
 -- deferred references, where the row counts as many as before
-bag-keep : (deferred : List ℕ) (rows : List Row) (slot : ℕ) (row : Row) → slot < length rows → IsSameBag deferred (late_in rows)
-    → ((test : ℕ → Bool) → weight late_count test row ≡ weight late_count test (row_at rows slot)) → IsSameBag deferred (late_in (slice_set rows slot row))
+bag-keep : (deferred : List ℕ) (rows : List Row) (slot : ℕ) (row : Row) → slot < length rows → IsSameBag deferred (deferred_in rows)
+    → ((test : ℕ → Bool) → weight late_count test row ≡ weight late_count test (row_at rows slot)) → IsSameBag deferred (deferred_in (slice_set rows slot row))
 bag-keep deferred rows slot row within is same = record {
   counts = λ test. omega (arith, is.counts test, same test, count-repeated-set late_count test rows slot row within);
 }
@@ -67,7 +68,7 @@ positive false n h = absurd (omega arith)
 
 -- where a number stands that a row counts
 pub record Standing (rows : List Row) (sealed : List ℕ) (number slot : ℕ) : Type 0 where
-  pub in_table : slot < 256
+  pub in_table : slot < SLOTS
   pub number_is : (row_at rows slot).number ≡ number
   pub place : slice_get sealed number ≡ Some slot
 
@@ -82,7 +83,7 @@ standing {rows = rows} {sealed = sealed} s count bounded number some =
     let counted = positive (row.number == number) (count row) found.2 in
     let is : (row.number == number) ≡ true = counted.0 in
     let same : row.number ≡ number = grind (arith, nat_tests) in
-    let within : slot < 256 = omega (arith, s.all_rows, found.1) in (
+    let within : slot < SLOTS = omega (arith, s.all_rows, found.1) in (
       slot,
       record {
         in_table = within;
@@ -114,14 +115,14 @@ referred_standing {rows = rows} {deferred = deferred} s number some =
 -- no count comes near the greatest number
 pub row_fits : {rows : List Row} {sealed deferred : List ℕ} {kept used late : List Bool} {held spare sealable referable : ℕ}
     → AreSoundRows rows sealed deferred kept used late held spare sealable referable
-    → (slot : ℕ) → slot < 256 → (row_at rows slot).held + (row_at rows slot).late + spare ≤ referable
+    → (slot : ℕ) → slot < SLOTS → (row_at rows slot).held + (row_at rows slot).late + spare ≤ referable
 row_fits {rows = rows} {deferred = deferred} s slot within =
     omega (
       arith,
       s.all_rows,
       s.counted,
       s.refers,
-      bag_length deferred (late_in rows) s.given_up,
+      bag_length deferred (deferred_in rows) s.given_up,
       count-le-length held_count rows slot (omega (arith, s.all_rows)),
       count-le-length late_count rows slot (omega (arith, s.all_rows)),
     )
@@ -158,7 +159,7 @@ weight_more test row number e = rw (← e) (more (test row.number) row.late)
 
 pub seal-sound : {rows : List Row} {sealed deferred : List ℕ} {kept used late : List Bool} {held spare sealable referable : ℕ}
     → AreSoundRows rows sealed deferred kept used late held spare sealable referable
-    → (slot number : ℕ) → slot < 256 → get_or kept slot false ≡ true → 0 < spare → number ≡ length sealed
+    → (slot number : ℕ) → slot < SLOTS → get_or kept slot false ≡ true → 0 < spare → number ≡ length sealed
     → AreSoundRows (slice_set rows slot (record { number = number; held = 1; late = 0 })) (sealed ++ slot ∷ []) deferred
     (slice_set kept slot false) (slice_set used slot true) late (held + 1) (spare - 1) sealable referable
 seal-sound {rows = rows} {sealed = sealed} {deferred = deferred} {kept = kept} {used = used} {late = late} s slot number within is some next =
@@ -261,7 +262,7 @@ drop-sound {rows = rows} {sealed = sealed} {deferred = deferred} {kept = kept} {
 
 pub keep-sound : {rows : List Row} {sealed deferred : List ℕ} {kept used late : List Bool} {held spare sealable referable : ℕ}
     → AreSoundRows rows sealed deferred kept used late held spare sealable referable
-    → (slot : ℕ) → slot < 256 → (row_at rows slot).held + (row_at rows slot).late ≡ 0
+    → (slot : ℕ) → slot < SLOTS → (row_at rows slot).held + (row_at rows slot).late ≡ 0
     → AreSoundRows rows sealed deferred (slice_set kept slot true) used late held spare sealable referable
 keep-sound {rows = rows} {kept = kept} s slot within none = record {
   all_rows = s.all_rows;
@@ -283,7 +284,7 @@ keep-sound {rows = rows} {kept = kept} s slot within none = record {
 -- what the calls do to the references
 pub seal-bag : {rows : List Row} {sealed deferred : List ℕ} {kept used late : List Bool} {held spare sealable referable : ℕ}
     → AreSoundRows rows sealed deferred kept used late held spare sealable referable
-    → (slot number : ℕ) → slot < 256 → get_or kept slot false ≡ true
+    → (slot number : ℕ) → slot < SLOTS → get_or kept slot false ≡ true
     → IsSameBag (held_in (slice_set rows slot (record { number = number; held = 1; late = 0 }))) (number ∷ held_in rows)
 seal-bag {rows = rows} s slot number within is = record {
   counts = λ test.
@@ -297,7 +298,7 @@ seal-bag {rows = rows} s slot number within is = record {
       );
 }
 
-pub add-bag : (rows : List Row) (sealed : List ℕ) (number slot : ℕ) → length rows ≡ 256 → Standing rows sealed number slot → (row : Row)
+pub add-bag : (rows : List Row) (sealed : List ℕ) (number slot : ℕ) → length rows ≡ SLOTS → Standing rows sealed number slot → (row : Row)
     → row ≡ row_at rows slot
     → IsSameBag (held_in (slice_set rows slot (record { number = row.number; held = row.held + 1; late = row.late }))) (number ∷ held_in rows)
 add-bag rows sealed number slot long at row is = record {
@@ -310,7 +311,7 @@ add-bag rows sealed number slot long at row is = record {
       omega (arith, count-repeated-set held_count test rows slot new in_rows, count-cons test number (held_in rows), counted, ap (weight held_count test) is);
 }
 
-pub drop-bag : (rows : List Row) (sealed : List ℕ) (number slot : ℕ) → length rows ≡ 256 → Standing rows sealed number slot → (row : Row)
+pub drop-bag : (rows : List Row) (sealed : List ℕ) (number slot : ℕ) → length rows ≡ SLOTS → Standing rows sealed number slot → (row : Row)
     → row ≡ row_at rows slot → 0 < row.held
     → IsSameBag (held_in rows) (number ∷ held_in (slice_set rows slot (record { number = row.number; held = row.held - 1; late = row.late + 1 })))
 drop-bag rows sealed number slot long at row is some = record {
@@ -351,7 +352,7 @@ held_at {rows = rows} {sealed = sealed} s number some read is =
     subst (λ (k : ℕ). Standing rows sealed number k × (0 < (row_at rows k).held)) (sym same) (found.1, found.2)
 
 -- the row that was read
-pub row_read : (rows : List Row) (slot : ℕ) (row : Row) → length rows ≡ 256 → slot < 256 → row ≡ get_or rows slot row → row ≡ row_at rows slot
+pub row_read : (rows : List Row) (slot : ℕ) (row : Row) → length rows ≡ SLOTS → slot < SLOTS → row ≡ get_or rows slot row → row ≡ row_at rows slot
 row_read rows slot row long within is = get_or_read rows slot row (omega arith) is (row_at [] 0)
 
 kept_in : (kept : List Bool) (slot : ℕ) → get_or kept slot false ≡ true → slot < length kept
@@ -361,5 +362,5 @@ kept_in (k ∷ kept) (suc slot) is = let rest = kept_in kept slot is in omega ar
 
 pub kept_within : {rows : List Row} {sealed deferred : List ℕ} {kept used late : List Bool} {held spare sealable referable : ℕ}
     → AreSoundRows rows sealed deferred kept used late held spare sealable referable
-    → (slot : ℕ) → get_or kept slot false ≡ true → slot < 256
+    → (slot : ℕ) → get_or kept slot false ≡ true → slot < SLOTS
 kept_within {kept = kept} s slot is = omega (arith, kept_in kept slot is, s.all_kept)

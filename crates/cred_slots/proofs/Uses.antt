@@ -5,6 +5,7 @@ use Rattle.std.specs.List.{count_by}
 use Rattle.std.specs.Option.{option_map_or}
 use Rattle.std.proofs.lemmas.Bool.{cases_lt, cases_eq}
 use Rattle.std.proofs.lemmas.Bool.Decides.{nat_tests}
+use Rattle.cred_ids.specs.Limits.{SLOTS}
 use Rattle.cred_slots.specs.declared.row.Row.{Row}
 use Rattle.cred_slots.specs.Table.{is_sealed_in}
 use Rattle.cred_slots.specs.Rows.{unused, row_at, repeated, held_in, held_count, late_count, AreSoundRows}
@@ -14,24 +15,24 @@ use Rattle.cred_slots.proofs.Live.{held-in_slot, late-in_slot, weight_none, weig
 
 pub uses_here : {rows : List Row} {sealed deferred : List ℕ} {kept used late : List Bool} {held spare sealable referable : ℕ}
     → AreSoundRows rows sealed deferred kept used late held spare sealable referable
-    → (slot : ℕ) → slot < 256 → (row_at rows slot).held + (row_at rows slot).late ≡ count_by (is_sealed_in sealed slot) (held_in rows ++ deferred)
+    → (slot : ℕ) → slot < SLOTS → (row_at rows slot).held + (row_at rows slot).late ≡ count_by (is_sealed_in sealed slot) (held_in rows ++ deferred)
 uses_here {rows = rows} {sealed = sealed} {deferred = deferred} s slot within =
     omega (arith, count-append (is_sealed_in sealed slot) (held_in rows) deferred, held-in_slot s slot within, late-in_slot s slot within)
 
 none_beyond : {rows : List Row} {sealed deferred : List ℕ} {kept used late : List Bool} {held spare sealable referable : ℕ}
     → AreSoundRows rows sealed deferred kept used late held spare sealable referable
-    → (count : Row → ℕ) → ((row : Row) → count row ≤ row.held + row.late) → (slot : ℕ) → 256 ≤ slot
+    → (count : Row → ℕ) → ((row : Row) → count row ≤ row.held + row.late) → (slot : ℕ) → SLOTS ≤ slot
     → count_by (is_sealed_in sealed slot) (repeated count rows) ≡ 0
 none_beyond {rows = rows} {sealed = sealed} s count bounded slot beyond =
     count-repeated count (is_sealed_in sealed slot) rows
     ∙ sum_zero (weight count (is_sealed_in sealed slot)) rows (λ i h.
-    let within : i < 256 = omega (arith, s.all_rows) in
+    let within : i < SLOTS = omega (arith, s.all_rows) in
     weight_elsewhere sealed count (row_at rows i) slot i (omega arith) (λ some. s.stands i within (omega (arith, bounded (row_at rows i)))))
 
 -- no number stands past the last slot
 pub uses_beyond : {rows : List Row} {sealed deferred : List ℕ} {kept used late : List Bool} {held spare sealable referable : ℕ}
     → AreSoundRows rows sealed deferred kept used late held spare sealable referable
-    → (slot : ℕ) → 256 ≤ slot → count_by (is_sealed_in sealed slot) (held_in rows ++ deferred) ≡ 0
+    → (slot : ℕ) → SLOTS ≤ slot → count_by (is_sealed_in sealed slot) (held_in rows ++ deferred) ≡ 0
 uses_beyond {rows = rows} {sealed = sealed} {deferred = deferred} s slot beyond =
     let test : ℕ → Bool = is_sealed_in sealed slot in
     omega (
@@ -63,14 +64,14 @@ another sealed count row number slot i ne place stands = elim (cases_lt 0 (count
 
 in_one : {rows : List Row} {sealed deferred : List ℕ} {kept used late : List Bool} {held spare sealable referable : ℕ}
     → AreSoundRows rows sealed deferred kept used late held spare sealable referable
-    → (count : Row → ℕ) → ((row : Row) → count row ≤ row.held + row.late) → (slot number : ℕ) → slot < 256 → slice_get sealed number ≡ Some slot
+    → (count : Row → ℕ) → ((row : Row) → count row ≤ row.held + row.late) → (slot number : ℕ) → slot < SLOTS → slice_get sealed number ≡ Some slot
     → (row_at rows slot).number ≡ number → count_by (λ n. n == number) (repeated count rows) ≡ count (row_at rows slot)
 in_one {rows = rows} {sealed = sealed} s count bounded slot number within place is =
     let test : ℕ → Bool = λ n. n == number in
     let same : ((row_at rows slot).number == number) ≡ true = grind (arith, nat_tests) in
     count-repeated count test rows
     ∙ sum_only (weight count test) rows slot (omega (arith, s.all_rows)) (λ i h ne.
-    let i_within : i < 256 = omega (arith, s.all_rows) in
+    let i_within : i < SLOTS = omega (arith, s.all_rows) in
     another sealed count (row_at rows i) number slot i ne place (λ more. s.stands i i_within (omega (arith, bounded (row_at rows i)))))
     ∙ rw same refl
 

@@ -7,30 +7,30 @@ use Rattle.std.proofs.lemmas.List.FromFn.{length-map-range_with_len, get_or-map-
 use Rattle.std.proofs.lemmas.Nat.Bits.{bit_at_or, bit_at-lt}
 use Rattle.std.proofs.lemmas.Bool.{cases_lt, cases_eq}
 use Rattle.std.proofs.Common.{length-set, get_or-set_same, get_or-set_other}
-use Rattle.cred_ids.specs.Limits.{slots}
-use Rattle.cred_slots.specs.Flags.{flag_at, flags_of, in_either, first_unset}
+use Rattle.cred_ids.specs.Limits.{SLOTS, slots}
+use Rattle.cred_slots.specs.Flags.{FLAG_WORDS, flag_at, flags_of, in_either, first_unset}
 
-pub length-flags_of : (words : List ℕ) → length (flags_of words) ≡ 256
+pub length-flags_of : (words : List ℕ) → length (flags_of words) ≡ SLOTS
 unfolding flags_of slots
-length-flags_of words = length-map-range_with_len (flag_at words) 0 256
+length-flags_of words = length-map-range_with_len (flag_at words) 0 SLOTS
 
-pub get_or-flags_of : (words : List ℕ) (slot : ℕ) → slot < 256 → get_or (flags_of words) slot false ≡ flag_at words slot
+pub get_or-flags_of : (words : List ℕ) (slot : ℕ) → slot < SLOTS → get_or (flags_of words) slot false ≡ flag_at words slot
 unfolding flags_of slots
-get_or-flags_of words slot within = get_or-map-range_with_len (flag_at words) 0 256 slot slot false within (omega arith)
+get_or-flags_of words slot within = get_or-map-range_with_len (flag_at words) 0 SLOTS slot slot false within (omega arith)
 
 -- flags that are right at each place
-pub flags_of-is : (words : List ℕ) (flags : List Bool) → length flags ≡ 256 → ((k : ℕ) → k < 256 → get_or flags k false ≡ flag_at words k)
+pub flags_of-is : (words : List ℕ) (flags : List Bool) → length flags ≡ SLOTS → ((k : ℕ) → k < SLOTS → get_or flags k false ≡ flag_at words k)
     → flags_of words ≡ flags
 unfolding flags_of slots
-flags_of-is words flags long each = sym (fill_by_all (flag_at words) flags 256 false long each)
+flags_of-is words flags long each = sym (fill_by_all (flag_at words) flags SLOTS false long each)
 
 one_is : (flag : Bool) (bit : ℕ) → bit ≡ cond flag 1 0 → (bit == 1) ≡ flag
 one_is true bit e = rw e refl
 one_is false bit e = rw e refl
 
-put_at : (words : List ℕ) (slot word : ℕ) (flag : Bool) → length words ≡ 4 → slot < 256 → bit_at word (slot % 64) ≡ cond flag 1 0
+put_at : (words : List ℕ) (slot word : ℕ) (flag : Bool) → length words ≡ FLAG_WORDS → slot < SLOTS → bit_at word (slot % 64) ≡ cond flag 1 0
     → ((i : ℕ) → i < 64 → i ≢ slot % 64 → bit_at word i ≡ bit_at (get_or words (slot / 64) 0) i)
-    → (k : ℕ) → k < 256 → get_or (slice_set (flags_of words) slot flag) k false ≡ flag_at (slice_set words (slot / 64) word) k
+    → (k : ℕ) → k < SLOTS → get_or (slice_set (flags_of words) slot flag) k false ≡ flag_at (slice_set words (slot / 64) word) k
 put_at words slot word flag four within same others k h =
     let long = length-flags_of words in
     elim (cases_eq k slot) [
@@ -48,7 +48,7 @@ put_at words slot word flag four within same others k h =
           ])))
     ]
 
-pub flags_of-put : (words : List ℕ) (slot word : ℕ) (flag : Bool) → length words ≡ 4 → slot < 256 → bit_at word (slot % 64) ≡ cond flag 1 0
+pub flags_of-put : (words : List ℕ) (slot word : ℕ) (flag : Bool) → length words ≡ FLAG_WORDS → slot < SLOTS → bit_at word (slot % 64) ≡ cond flag 1 0
     → ((i : ℕ) → i < 64 → i ≢ slot % 64 → bit_at word i ≡ bit_at (get_or words (slot / 64) 0) i)
     → flags_of (slice_set words (slot / 64) word) ≡ slice_set (flags_of words) slot flag
 flags_of-put words slot word flag four within same others =
@@ -76,7 +76,7 @@ or_word xs ys (suc (suc zero)) h = refl
 or_word xs ys (suc (suc (suc zero))) h = refl
 or_word xs ys (suc (suc (suc (suc q)))) h = absurd (omega arith)
 
-pub flag_at-or_words : (xs ys : List ℕ) (k : ℕ) → k < 256 → flag_at (or_words xs ys) k ≡ (flag_at xs k || flag_at ys k)
+pub flag_at-or_words : (xs ys : List ℕ) (k : ℕ) → k < SLOTS → flag_at (or_words xs ys) k ≡ (flag_at xs k || flag_at ys k)
 flag_at-or_words xs ys k h =
     rw (or_word xs ys (k / 64) (omega arith), bit_at_or (get_or xs (k / 64) 0) (get_or ys (k / 64) 0) (k % 64))
     (either_bit _ _ (bit_at-lt _ _) (bit_at-lt _ _))
@@ -85,8 +85,8 @@ pub flags_of-or_words : (xs ys : List ℕ) → flags_of (or_words xs ys) ≡ map
 unfolding slots
 flags_of-or_words xs ys =
     flags_of-is (or_words xs ys) (map (in_either (flags_of xs) (flags_of ys)) slots)
-    (length-map-range_with_len (in_either (flags_of xs) (flags_of ys)) 0 256)
-    (λ k h. get_or-map-range_with_len (in_either (flags_of xs) (flags_of ys)) 0 256 k k false h (omega arith)
+    (length-map-range_with_len (in_either (flags_of xs) (flags_of ys)) 0 SLOTS)
+    (λ k h. get_or-map-range_with_len (in_either (flags_of xs) (flags_of ys)) 0 SLOTS k k false h (omega arith)
     ∙ rw (get_or-flags_of xs k h, get_or-flags_of ys k h) (sym (flag_at-or_words xs ys k h)))
 
 pub find_first : (test : ℕ → Bool) (a n s : ℕ) → a ≤ s → s < a + n → test s ≡ true → ((k : ℕ) → a ≤ k → k < s → test k ≡ false)
@@ -101,15 +101,15 @@ pub find_none : (test : ℕ → Bool) (a n : ℕ) → ((k : ℕ) → a ≤ k →
 find_none test a zero each = refl
 find_none test a (suc n) each = rw (each a (omega arith) (omega arith)) (find_none test (a + 1) n (λ k l h. each k (omega arith) (omega arith)))
 
-pub first_unset-is : (flags : List Bool) (s : ℕ) → s < 256 → get_or flags s false ≡ false → ((k : ℕ) → k < s → get_or flags k false ≡ true)
+pub first_unset-is : (flags : List Bool) (s : ℕ) → s < SLOTS → get_or flags s false ≡ false → ((k : ℕ) → k < s → get_or flags k false ≡ true)
     → first_unset flags ≡ Some s
 unfolding slots
 first_unset-is flags s within here before =
-    find_first (λ slot. not (get_or flags slot false)) 0 256 s (omega arith) within (ap not here) (λ k l h. ap not (before k h))
+    find_first (λ slot. not (get_or flags slot false)) 0 SLOTS s (omega arith) within (ap not here) (λ k l h. ap not (before k h))
 
-pub first_unset-none : (flags : List Bool) → ((k : ℕ) → k < 256 → get_or flags k false ≡ true) → first_unset flags ≡ None
+pub first_unset-none : (flags : List Bool) → ((k : ℕ) → k < SLOTS → get_or flags k false ≡ true) → first_unset flags ≡ None
 unfolding slots
-first_unset-none flags each = find_none (λ slot. not (get_or flags slot false)) 0 256 (λ k l h. ap not (each k h))
+first_unset-none flags each = find_none (λ slot. not (get_or flags slot false)) 0 SLOTS (λ k l h. ap not (each k h))
 
 pub unset_here : (words : List ℕ) (index bit : ℕ) → bit < 64 → bit_at (get_or words index 0) bit ≡ 0 → flag_at words (index * 64 + bit) ≡ false
 unset_here words index bit within clear =
@@ -127,7 +127,7 @@ set_below words index bit within before here k h = elim (cases_lt k (index * 64)
       rw (word, here (k % 64) (omega arith)) refl
 ]
 
-pub first_unset-at : (words : List ℕ) (index bit : ℕ) → index < 4 → bit < 64 → ((k : ℕ) → k < index * 64 → flag_at words k ≡ true)
+pub first_unset-at : (words : List ℕ) (index bit : ℕ) → index < FLAG_WORDS → bit < 64 → ((k : ℕ) → k < index * 64 → flag_at words k ≡ true)
     → bit_at (get_or words index 0) bit ≡ 0 → ((i : ℕ) → i < bit → bit_at (get_or words index 0) i ≡ 1)
     → first_unset (flags_of words) ≡ Some (index * 64 + bit)
 first_unset-at words index bit word within before here lower =
@@ -135,5 +135,5 @@ first_unset-at words index bit word within before here lower =
     (get_or-flags_of words _ (omega arith) ∙ unset_here words index bit within here)
     (λ k h. get_or-flags_of words k (omega arith) ∙ set_below words index bit (omega arith) before lower k h)
 
-pub first_unset-nowhere : (words : List ℕ) → ((k : ℕ) → k < 256 → flag_at words k ≡ true) → first_unset (flags_of words) ≡ None
+pub first_unset-nowhere : (words : List ℕ) → ((k : ℕ) → k < SLOTS → flag_at words k ≡ true) → first_unset (flags_of words) ≡ None
 first_unset-nowhere words each = first_unset-none (flags_of words) (λ k h. get_or-flags_of words k h ∙ each k h)

@@ -1,9 +1,13 @@
--- 256 flags as the bits of four words.
+-- A flag for each slot, as the bits of words.
 use Rattle.std.specs.Prelude.{ℕ, ◌/◌, ◌%◌, ◌==◌, Bool, false, not, ◌||◌, List, map, find}
 use Rattle.std.specs.Prelude.{slice_index, slice_index_or}
 use Rattle.std.specs.declared.option.Option.{Option}
 use Rattle.std.specs.Int.{bit_at}
-use Rattle.cred_ids.specs.Limits.{slots}
+use Rattle.cred_ids.specs.Limits.{SLOTS, slots}
+
+-- how many words that are, of 64 flags each
+abbrev pub FLAG_WORDS : ℕ
+FLAG_WORDS = SLOTS / 64
 
 -- The flag of a slot is one bit of the word that it falls in.
 abbrev pub flag_at : List ℕ → ℕ → Bool

@@ -29,8 +29,8 @@ abbrev pub held_in : List Row → List ℕ
 held_in rows = repeated held_count rows
 
 -- the numbers that were given up, each as often as it was
-abbrev pub late_in : List Row → List ℕ
-late_in rows = repeated late_count rows
+abbrev pub deferred_in : List Row → List ℕ
+deferred_in rows = repeated late_count rows
 
 abbrev pub without_late : Row → Row
 without_late row = record row { late = 0 }
@@ -58,7 +58,7 @@ pub record AreSoundRows (rows : List Row) (sealed deferred : List ℕ) (kept use
   pub keeps : (slot : ℕ) → slot < SLOTS → slice_index_or kept slot false ≡ true
       → let row = row_at rows slot in row.held + row.late ≡ 0
   -- what was given up is counted as late, and all that is held is counted in one number
-  pub given_up : IsSameBag deferred (late_in rows)
+  pub given_up : IsSameBag deferred (deferred_in rows)
   pub counted : length (held_in rows) ≡ held
   -- There is room for as many more as are spare, and for each reference once it is given up.
   pub seals : length sealed + spare ≤ sealable

@@ -5,19 +5,19 @@ ghost use Rattle.std.specs.Int.{bit_at};
 ghost use Rattle.cred_ids.specs.Limits.{SLOTS, slots};
 ghost use Rattle.cred_slots.specs.Flags.{in_either, first_unset};
 
+use cred_ids::limits;
 use std::marker::Model;
 
 /// How many flags stand in one word.
 const BITS: u32 = 64;
 
 /// How many words there are.
-const WORDS: u32 = 4;
+const WORDS: usize = limits::SLOTS / 64;
 
-/// One flag for each of the 256 slots, as the bits of four words. Contracts see the list of the
-/// flags.
+/// One flag for each slot, as the bits of words. Contracts see the list of the flags.
 #[derive(Drop, Debug)]
 pub struct Flags {
-    words: [u64; 4],
+    words: [u64; WORDS],
 }
 
 impl Model for Flags {
@@ -34,7 +34,7 @@ impl Flags {
     pub fn new() -> Flags
         ensures { result ≡ map (λ _. false) slots }
     {
-        Flags { words: [0; 4] }
+        Flags { words: [0; WORDS] }
     }
 
     /// Sets or clears the flag of a slot.
@@ -51,6 +51,7 @@ impl Flags {
         ensures { result ≡ map (in_either self.now other.now) slots }
     {
         Flags {
+            // Word by word: it can't be a number of words that isn't written here.
             words: [
                 self.words[0] | other.words[0],
                 self.words[1] | other.words[1],
@@ -64,7 +65,7 @@ impl Flags {
     pub fn first_unset(&self) -> Option<u32>
         ensures { result ≡ first_unset self.now }
     {
-        for index in 0..WORDS {
+        for index in 0..WORDS as u32 {
             if let Some(bit) = first_clear(self.words[index as usize]) {
                 return Some(index * BITS + bit);
             }

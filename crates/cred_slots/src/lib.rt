@@ -1,5 +1,5 @@
 //! Counted slots for sealed credentials. Sealed credentials have the numbers 0, 1, 2, .., and each
-//! stands in one of 256 slots. The references to a number are counted, and never searched for.
+//! stands in a slot. The references to a number are counted, and never searched for.
 #![tactic(auto)]
 
 mod flags;

@@ -16,7 +16,7 @@ use cred_ids::{NoMemory, limits};
 use std::alloc::Global;
 use std::marker::Model;
 
-/// A table of 256 slots for sealed credentials, which have numbers from 0 on. A slot is live while
+/// A table of the slots for sealed credentials, which have numbers from 0 on. A slot is live while
 /// something refers to a number in it, or while it is kept for a credential that is being prepared.
 /// A reference that is given up counts until the next sweep.
 ///

@@ -19,7 +19,7 @@ use Rattle.cred_event.specs.declared.event.Event.TheVariants.{Begin, Act, OpenFi
 use Rattle.cred_event.specs.declared.event.Event.TheVariants.{SetAttr, Stat, Raw}
 use Rattle.cred_event.specs.declared.event.Change.{Change}
 use Rattle.cred_event.specs.declared.event.Change.TheVariants.{Exec}
-use Rattle.cred_event.specs.declared.event.Mode.{Mode}
+use Rattle.cred_record.specs.declared.mode.PtraceMode.{PtraceMode}
 use Rattle.cred_event.specs.declared.event.Side.{Side}
 use Rattle.cred_event.specs.declared.answer.Answer.{Answer}
 use Rattle.cred_event.specs.declared.answer.Answer.TheVariants.{Done, Sealed, Kept, Told, Einval, Stale, TableFull}
@@ -33,7 +33,7 @@ use Rattle.cred_model.specs.FileChanges.{changed_file, changed_by}
 use Rattle.cred_model.specs.Answers.{checked}
 use Rattle.cred_model.specs.Change.{by_change}
 use Rattle.cred_model.specs.Ends.{ended}
-use Rattle.cred_model.specs.Ptrace.{may_trace}
+use Rattle.cred_rules.specs.Ptrace.{may_trace}
 use Rattle.cred_model.specs.Dumpable.{is_dumpable, set_flag, flags_begun, flags_committed, flag_of_value}
 use Rattle.cred_model.specs.Moves.{table_full, with_overrides, with_override, overridden, with_change, first_task, created, preparing, committed, given_up}
 use Rattle.cred_model.specs.LabelEvents.{ends_with, broadcasts_after, commit_answer, try_commit, take_hold, is_access, for_task, for_access, override_held}
@@ -41,14 +41,14 @@ use Rattle.cred_model.specs.LabelEvents.{override_prepared}
 use Rattle.cred_model.specs.FileEvents.{by_file}
 use Rattle.cred_model.specs.Step.{outcome, step}
 use Rattle.cred_model.proofs.Lists.{All-at}
-use Rattle.cred_sound.specs.Ledger.{SealsOf}
+use Rattle.cred_sound.specs.SlotUse.{SealsOf}
 use Rattle.cred_sound.proofs.References.{owner_stands, overrides_stand, credential_stands, opener_stands, held_by_stands, file_stands, found_stands}
 use Rattle.cred_sound.proofs.References.{held_stands, base_stands}
 use Rattle.cred_sound.proofs.Tests.{IfAllowed, outcome_has, if_some, if_none, if_either, if_fewer, if_passed, if_idle, if_own, if_last, if_ok, if_file_rule}
 use Rattle.cred_sound.proofs.Tests.{in_slots}
 use Rattle.cred_sound.proofs.Parts.{with_left, Old, OldOrNew, grows, broadcasts_left, Changes, Seals, OfFirst, OfLabel, ByCommit, SetsFlag, Creates, Renews}
-use Rattle.cred_sound.proofs.Parts.{Overrides, Stays, Adds, Removes, Prepares, Alters, Ends, SameInfos, Writes}
-use Rattle.cred_sound.proofs.OnePart.{still_left, gives_up, fits_own, still, refused, with_tasks, only_tasks, with_lists, with_prepared, only_infos}
+use Rattle.cred_sound.proofs.Parts.{Overrides, Stays, Adds, Removes, Prepares, Alters, Ends, SameInodes, Writes}
+use Rattle.cred_sound.proofs.OnePart.{still_left, gives_up, fits_own, still, refused, with_tasks, only_tasks, with_lists, with_prepared, only_inodes}
 use Rattle.cred_sound.proofs.Calls.{ended_stay, begin_changes, act_changes, raw_changes, spawn_changes, fork_changes, exit_changes}
 
 -- ---- the events
@@ -121,7 +121,7 @@ open_changes script s line hold place asked fd =
     outcome_has Q s _ (refused script s event)
     (if_some Q (held_by s hold) _ _
     (λ held is. if_none Q (open_of s fd) _ _
-    (λ new. if_passed Q (checked held.cred (info_of s.infos (place ∷ [])) asked) _
+    (λ new. if_passed Q (checked held.cred (info_of s.inodes (place ∷ [])) asked) _
     (if_fewer Q (length s.files) OPEN_FILES _ _
     (let file : Open = record { fd = fd; opener = held.number; file = place } in
     with_lists script s event Done (s.files ++ file ∷ []) s.holds s.deferred
@@ -180,7 +180,7 @@ alter_changes script s line label change =
     outcome_has Q s _ (refused script s event)
     (if_some Q (prepared_of s label) _ _
     (λ p is. if_some Q (numbered s.creds p.base) _ _
-    (λ base at. if_ok Q (by_change (info_of s.infos (change_files change)) (chain_of script base.cred.ns) base.cred change) _
+    (λ base at. if_ok Q (by_change (info_of s.inodes (change_files change)) (chain_of script base.cred.ns) base.cred change) _
     (λ made so.
     let to : Changed = record { change = change; cred = made.cred; gains = made.gains } in
     with_prepared script s event made.answer s.deferred (with_change s.prepared label to) s.deferred (All-contains_itself s.deferred)
@@ -223,7 +223,7 @@ commit_fresh script s label place p last owner at is changed found same =
       holds = Stays refl;
       prepared = Ends label place p (inl refl) refl at is;
       creds = Seals last.cred p.slot refl (fits_own s (Commit label) t label place p refl refl at is) (OfLabel place p last is changed refl);
-      infos = SameInfos refl;
+      inodes = SameInodes refl;
       deferred = All-append Has (ended ends s).deferred (owner.current ∷ p.base ∷ []) (ended_stay s ends)
           (All-cons Has owner.current (p.base ∷ []) (owner_stands s p.task owner found)
           (All-cons Has p.base [] (base_stands s place p is) (All-nil Has)));
@@ -328,7 +328,7 @@ override_prepared_has script s task label owner found =
       prepared = Ends label place p (inl refl) refl at is;
       creds = Seals last.cred p.slot refl (fits_own s event t label place p refl refl at is)
           (OfLabel place p last is (changed_for_access owner.number p last changed) refl);
-      infos = SameInfos refl;
+      inodes = SameInodes refl;
       deferred = gives_up s p.base (base_stands s place p is);
     }))))
 
@@ -377,7 +377,7 @@ dumped_changes script s line task =
     outcome_has (Changes script s event) s _ (refused script s event)
     (if_some _ (task_of s task) _ _ (λ owner found. refused script s event _))
 
-ptrace_changes : (script : Script) (s : State) (line from hold to target : ℕ) (mode : Mode)
+ptrace_changes : (script : Script) (s : State) (line from hold to target : ℕ) (mode : PtraceMode)
     → Changes script s (Ptrace from hold to target mode) (step script s line (Ptrace from hold to target mode))
 ptrace_changes script s line from hold to target mode =
     let event = Ptrace from hold to target mode in
@@ -401,10 +401,10 @@ file_changes script s event hold place is =
     let Q = Changes script s event in
     outcome_has Q s _ (refused script s event)
     (if_some Q (held_by s hold) _ _
-    (λ held at. if_some Q (slice_get s.infos place) _ _
+    (λ held at. if_some Q (slice_get s.inodes place) _ _
     (λ old there. if_file_rule Q (changed_by event held.cred old) _
     (λ new ruled.
-    only_infos script s event Done (slice_set s.infos place new) (Writes place held old new is there ruled refl refl)))))
+    only_inodes script s event Done (slice_set s.inodes place new) (Writes place held old new is there ruled refl refl)))))
 
 stat_changes : (script : Script) (s : State) (line hold place : ℕ) → Changes script s (Stat hold place) (step script s line (Stat hold place))
 stat_changes script s line hold place =
@@ -412,7 +412,7 @@ stat_changes script s line hold place =
     let Q = Changes script s event in
     outcome_has Q s _ (refused script s event)
     (if_some Q (held_by s hold) _ _
-    (λ held at. if_some Q (slice_get s.infos place) _ _ (λ file there. refused script s event _)))
+    (λ held at. if_some Q (slice_get s.inodes place) _ _ (λ file there. refused script s event _)))
 
 -- what an event changes
 pub changes : (script : Script) (s : State) (line : ℕ) (event : Event) → Changes script s event (step script s line event)

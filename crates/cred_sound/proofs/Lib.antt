@@ -12,5 +12,5 @@ pub mod Flags
 pub mod Dumpable
 pub mod Sound
 pub mod Survivors
-pub mod Few
-pub mod Infos
+pub mod TaskCount
+pub mod Inodes

@@ -1,4 +1,4 @@
--- The moves that lead from one ledger in order to another: fewer references and fewer kept slots,
+-- The moves that lead from one use of the slots in order to another: fewer references and fewer kept slots,
 -- one slot more that is kept, one credential more that is sealed.
 use Rattle.std.proofs.Common.{◌≡◌, ◌≢◌, ◌⊎◌, inl, inr, ℕ, ◌<◌, List, [], ◌∷◌, ◌++◌, length, slice_get, Some, sym, ap, ◌∙◌, arith}
 use Rattle.std.specs.List.{All, AllPairs, Contains}
@@ -7,7 +7,7 @@ use Rattle.std.proofs.lemmas.List.Elements.{All-contains, All-push, All-weaker}
 use Rattle.std.proofs.lemmas.List.Quantifiers.{all_pairs_push}
 use Rattle.cred_ids.specs.Limits.{SLOTS}
 use Rattle.cred_model.proofs.Lists.{slice_get-left, slice_get-last}
-use Rattle.cred_sound.specs.Ledger.{Ledger, referred, StandsIn, IsClear, SlotsApart, IsOrderly}
+use Rattle.cred_sound.specs.SlotUse.{SlotUse, referred, StandsIn, IsClear, SlotsApart, IsOrderly}
 
 abbrev pub Apart : ℕ → ℕ → Type 0
 Apart a b = a ≢ b
@@ -19,7 +19,7 @@ clear_fewer slots slot xs ys clear among =
     All-weaker (Contains xs) (λ n. slice_get slots n ≢ Some slot)
     (λ n has. All-contains (λ n. slice_get slots n ≢ Some slot) xs n clear has) ys among
 
-pub fewer : (l : Ledger) (in_use deferred kept : List ℕ) → All (Contains (referred l)) (in_use ++ deferred)
+pub fewer : (l : SlotUse) (in_use deferred kept : List ℕ) → All (Contains (referred l)) (in_use ++ deferred)
     → All (Contains l.kept) kept → AllPairs Apart kept → IsOrderly l
     → IsOrderly (record { slots = l.slots; in_use = in_use; deferred = deferred; kept = kept })
 fewer l in_use deferred kept among within own order =
@@ -37,7 +37,7 @@ fewer l in_use deferred kept among within own order =
 
 -- ---- one slot more that is kept, and that was free
 
-pub keeps : (l : Ledger) (slot : ℕ) → slot < SLOTS → IsClear l.slots slot (referred l) → All (λ k. k ≢ slot) l.kept
+pub keeps : (l : SlotUse) (slot : ℕ) → slot < SLOTS → IsClear l.slots slot (referred l) → All (λ k. k ≢ slot) l.kept
     → IsOrderly l → IsOrderly (record l { kept = l.kept ++ slot ∷ [] })
 keeps l slot below clear unkept order = record {
   sealed = order.sealed;
@@ -93,7 +93,7 @@ clear_more slots xs ys new slot sealed differ clear among =
     ])
     ys among
 
-pub seals : (l : Ledger) (slot : ℕ) (in_use deferred : List ℕ) → slot < SLOTS → IsClear l.slots slot (referred l)
+pub seals : (l : SlotUse) (slot : ℕ) (in_use deferred : List ℕ) → slot < SLOTS → IsClear l.slots slot (referred l)
     → All (λ k. k ≢ slot) l.kept → All (OldOrNew l.slots (referred l)) (in_use ++ deferred) → IsOrderly l
     → IsOrderly (record { slots = l.slots ++ slot ∷ []; in_use = in_use; deferred = deferred; kept = l.kept })
 seals l slot in_use deferred below clear unkept among order =

@@ -13,11 +13,11 @@ use Rattle.cred_model.specs.Script.{Script}
 use Rattle.cred_model.specs.State.{State, Task, Broadcast, OpenFile as Open, Hold, Prepared, ProcessFlag}
 use Rattle.cred_model.specs.Slots.{refs, kept, free}
 use Rattle.cred_model.proofs.Lists.{All-at, All-unmap, AllPairs-unmap, alone, at_place, others_differ}
-use Rattle.cred_sound.specs.Ledger.{IsClear, IsOrderly, SealsOf, ledger}
+use Rattle.cred_sound.specs.SlotUse.{IsClear, IsOrderly, SealsOf, slot_use}
 use Rattle.cred_sound.proofs.Moves.{Apart}
 use Rattle.cred_sound.proofs.References.{IsFree, own_refs}
-use Rattle.cred_sound.proofs.Parts.{with_left, sealed_cred, Fits, Origin, Changes, TasksChange, FilesChange, HoldsChange, PreparedChange, InfosChange}
-use Rattle.cred_sound.proofs.Parts.{SameCreds, Seals, SameTasks, Stays, SamePrepared, SameInfos}
+use Rattle.cred_sound.proofs.Parts.{with_left, sealed_cred, Fits, Origin, Changes, TasksChange, FilesChange, HoldsChange, PreparedChange, InodesChange}
+use Rattle.cred_sound.proofs.Parts.{SameCreds, Seals, SameTasks, Stays, SamePrepared, SameInodes}
 
 -- ---- the references that are left
 
@@ -44,7 +44,7 @@ fits_free s event left t slot same free = record {
 -- that of the label whose credential is sealed
 pub fits_own : (s : State) (event : Event) (t : State) (label place : ℕ) (p : Prepared) → kept t ≡ map (λ p. p.slot) (remove s.prepared place)
     → SealsOf event label → position (λ p. p.label == label) s.prepared ≡ Some place → slice_get s.prepared place ≡ Some p
-    → IsOrderly (ledger s) → Fits s event s.deferred t p.slot
+    → IsOrderly (slot_use s) → Fits s event s.deferred t p.slot
 fits_own s event t label place p rest seals at is order =
     let slot_of : Prepared → ℕ = λ p. p.slot in
     let apart = AllPairs-unmap Apart slot_of s.prepared order.own in
@@ -53,8 +53,8 @@ fits_own s event t label place p rest seals at is order =
     let one = All-at (λ (x : Prepared). All (λ (y : Prepared). y.slot ≡ x.slot → y ≡ x) s.prepared) s.prepared place p is (alone slot_of s.prepared apart) in
     record {
       below = All-at (λ p. p.slot < SLOTS) s.prepared place p is (All-unmap (λ k. k < SLOTS) slot_of s.prepared order.kept);
-      clear = All-at (λ p. IsClear (ledger s).slots p.slot (refs s)) s.prepared place p is
-          (All-unmap (λ k. IsClear (ledger s).slots k (refs s)) slot_of s.prepared order.clear);
+      clear = All-at (λ p. IsClear (slot_use s).slots p.slot (refs s)) s.prepared place p is
+          (All-unmap (λ k. IsClear (slot_use s).slots k (refs s)) slot_of s.prepared order.clear);
       unkept = subst (All (λ k. k ≢ p.slot)) (sym rest)
           (All-map (λ k. k ≢ p.slot) slot_of (remove s.prepared place) (others_differ slot_of s.prepared place p is apart));
       own = All-weaker (λ (q : Prepared). q.slot ≡ p.slot → q ≡ p) (λ q. q.slot ≡ p.slot → SealsOf event q.label)
@@ -74,7 +74,7 @@ still script s event answer left fewer = record {
   holds = Stays refl;
   prepared = SamePrepared refl;
   creds = SameCreds refl;
-  infos = SameInfos refl;
+  inodes = SameInodes refl;
   deferred = still_left s left;
 }
 
@@ -97,7 +97,7 @@ with_tasks script s event answer left tasks broadcasts flags c slot deferred few
       holds = Stays refl;
       prepared = SamePrepared refl;
       creds = Seals c slot refl (λ order. fits_free s event left t slot refl free) origin;
-      infos = SameInfos refl;
+      inodes = SameInodes refl;
       deferred = refer;
     }
 
@@ -115,7 +115,7 @@ only_tasks script s event answer left tasks broadcasts flags deferred fewer chan
   holds = Stays refl;
   prepared = SamePrepared refl;
   creds = SameCreds refl;
-  infos = SameInfos refl;
+  inodes = SameInodes refl;
   deferred = refer;
 }
 
@@ -132,7 +132,7 @@ with_lists script s event answer files holds deferred file hold refer = record {
   holds = hold;
   prepared = SamePrepared refl;
   creds = SameCreds refl;
-  infos = SameInfos refl;
+  inodes = SameInodes refl;
   deferred = refer;
 }
 
@@ -149,14 +149,14 @@ with_prepared script s event answer left prepared deferred fewer change refer = 
   holds = Stays refl;
   prepared = change;
   creds = SameCreds refl;
-  infos = SameInfos refl;
+  inodes = SameInodes refl;
   deferred = refer;
 }
 
 -- a file is changed
-pub only_infos : (script : Script) (s : State) (event : Event) (answer : Answer) (infos : List File)
-    → InfosChange s event (answer, record s { infos = infos }) → Changes script s event (answer, record s { infos = infos })
-only_infos script s event answer infos change = record {
+pub only_inodes : (script : Script) (s : State) (event : Event) (answer : Answer) (inodes : List File)
+    → InodesChange s event (answer, record s { inodes = inodes }) → Changes script s event (answer, record s { inodes = inodes })
+only_inodes script s event answer inodes change = record {
   left = s.deferred;
   fewer = All-contains_itself s.deferred;
   tasks = SameTasks refl refl refl;
@@ -164,6 +164,6 @@ only_infos script s event answer infos change = record {
   holds = Stays refl;
   prepared = SamePrepared refl;
   creds = SameCreds refl;
-  infos = change;
+  inodes = change;
   deferred = still_left s s.deferred;
 }

@@ -28,7 +28,7 @@ use Rattle.cred_model.specs.Dumpable.{flag_of_value}
 use Rattle.cred_model.specs.Broadcasts.{others_of, with_broadcast, waits_no_more, joined, dropped}
 use Rattle.cred_model.specs.Moves.{with_change, with_current, with_overrides, first_task}
 use Rattle.cred_model.specs.LabelEvents.{commit_answer, ends_with}
-use Rattle.cred_sound.specs.Ledger.{IsClear, IsOrderly, SealsOf, ledger}
+use Rattle.cred_sound.specs.SlotUse.{IsClear, IsOrderly, SealsOf, slot_use}
 use Rattle.cred_sound.proofs.References.{IsFree}
 
 -- The state, where only these of the deferred references are left: an event that takes a slot may
@@ -43,7 +43,7 @@ sealed_cred c slot = record { cred = c; slot = slot }
 -- the one whose credential it seals, and none after it.
 pub record Fits (s : State) (event : Event) (left : List ℕ) (t : State) (slot : ℕ) : Type 0 where
   pub below : slot < SLOTS
-  pub clear : IsClear (ledger s).slots slot (refs (with_left s left))
+  pub clear : IsClear (slot_use s).slots slot (refs (with_left s left))
   pub unkept : All (λ k. k ≢ slot) (kept t)
   pub own : All (λ p. p.slot ≡ slot → SealsOf event p.label) s.prepared
 
@@ -59,7 +59,7 @@ pub data Origin (s : State) (c : Credential) : Type 0 where
 pub data CredsChange (s : State) (event : Event) (left : List ℕ) (t : State) : Type 0 where
   SameCreds : t.creds ≡ s.creds → CredsChange s event left t
   Seals : (c : Credential) (slot : ℕ) → t.creds ≡ s.creds ++ sealed_cred c slot ∷ []
-      → (IsOrderly (ledger s) → Fits s event left t slot) → Origin s c → CredsChange s event left t
+      → (IsOrderly (slot_use s) → Fits s event left t slot) → Origin s c → CredsChange s event left t
 
 -- one of the references before the event, or the number of a credential that it sealed
 abbrev pub Old : State → List ℕ → ℕ → Type 0
@@ -185,7 +185,7 @@ pub data PreparedChange (script : Script) (s : State) (event : Event) (left : Li
       → PreparedChange script s event left t
   Alters : (label : ℕ) (to : Changed) (p : Prepared) (base : Numbered) (answer : Answer)
       → t.prepared ≡ with_change s.prepared label to → prepared_of s label ≡ Some p → numbered s.creds p.base ≡ Some base
-      → by_change (info_of s.infos (change_files to.change)) (chain_of script base.cred.ns) base.cred to.change
+      → by_change (info_of s.inodes (change_files to.change)) (chain_of script base.cred.ns) base.cred to.change
       ≡ Ok (record { answer = answer; cred = to.cred; gains = to.gains })
       → event ≡ Alter label to.change → PreparedChange script s event left t
   Ends : (label place : ℕ) (p : Prepared) → SealsOf event label ⊎ (event ≡ Abort label)
@@ -193,11 +193,11 @@ pub data PreparedChange (script : Script) (s : State) (event : Event) (left : Li
       → slice_get s.prepared place ≡ Some p → PreparedChange script s event left t
 
 -- The files: as they were, or one of them as the event's call leaves it.
-pub data InfosChange (s : State) (event : Event) (made : Answer × State) : Type 0 where
-  SameInfos : made.1.infos ≡ s.infos → InfosChange s event made
-  Writes : (place : ℕ) (held : Numbered) (old new : File) → changed_file event ≡ Some place → slice_get s.infos place ≡ Some old
-      → changed_by event held.cred old ≡ Ok new → made.0 ≡ Done → made.1.infos ≡ slice_set s.infos place new
-      → InfosChange s event made
+pub data InodesChange (s : State) (event : Event) (made : Answer × State) : Type 0 where
+  SameInodes : made.1.inodes ≡ s.inodes → InodesChange s event made
+  Writes : (place : ℕ) (held : Numbered) (old new : File) → changed_file event ≡ Some place → slice_get s.inodes place ≡ Some old
+      → changed_by event held.cred old ≡ Ok new → made.0 ≡ Done → made.1.inodes ≡ slice_set s.inodes place new
+      → InodesChange s event made
 
 -- What an event changes, with the deferred references that are left by the sweep, if it makes one.
 pub record Changes (script : Script) (s : State) (event : Event) (made : Answer × State) : Type 0 where
@@ -208,5 +208,5 @@ pub record Changes (script : Script) (s : State) (event : Event) (made : Answer 
   pub holds : HoldsChange s event left made.1
   pub prepared : PreparedChange script s event left made.1
   pub creds : CredsChange s event left made.1
-  pub infos : InfosChange s event made
+  pub inodes : InodesChange s event made
   pub deferred : All (Contains (refs (with_left s left))) made.1.deferred

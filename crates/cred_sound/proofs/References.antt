@@ -13,7 +13,7 @@ use Rattle.cred_model.specs.Slots.{refs, kept, stands_in, is_live, is_kept, leas
 use Rattle.cred_model.proofs.Referred.{EachRef, each_ref}
 use Rattle.cred_model.proofs.LikeReads.{current_by, credential_by, opener_by, held_by_each}
 use Rattle.cred_model.proofs.Lists.{All-at, find_each, or_left, or_right, none_passes, found}
-use Rattle.cred_sound.specs.Ledger.{IsClear, ledger}
+use Rattle.cred_sound.specs.SlotUse.{IsClear, slot_use}
 
 -- ---- what refers
 
@@ -83,14 +83,14 @@ other_slot : (o : Option SealedCred) (slot : ℕ) → option_map_or (λ (x : Sea
 other_slot None slot fails is = cc
 other_slot (Some x) slot fails is = eqb-false x.slot slot fails (let same : x.slot ≡ slot = cc in same)
 
-pub clear_of : (s : State) (slot n : ℕ) → stands_in s.creds slot n ≡ false → slice_get (ledger s).slots n ≢ Some slot
+pub clear_of : (s : State) (slot n : ℕ) → stands_in s.creds slot n ≡ false → slice_get (slot_use s).slots n ≢ Some slot
 clear_of s slot n fails is =
     other_slot (slice_get s.creds n) slot fails (sym (slice_get-map (λ (x : SealedCred). x.slot) s.creds n) ∙ is)
 
 -- nothing that is referred to stands in the slot, and it isn't kept
 pub record IsFree (s : State) (slot : ℕ) : Type 0 where
   pub below : slot < SLOTS
-  pub clear : IsClear (ledger s).slots slot (refs s)
+  pub clear : IsClear (slot_use s).slots slot (refs s)
   pub unkept : All (λ k. k ≢ slot) (kept s)
 
 pub free_slot : (s : State) (slot : ℕ) → least_free s ≡ Some slot → IsFree s slot
@@ -99,7 +99,7 @@ free_slot s slot is =
     let dead = not_true (is_live s slot) at.1 in
     record {
       below = at.0;
-      clear = All-weaker (λ n. stands_in s.creds slot n ≡ false) (λ n. slice_get (ledger s).slots n ≢ Some slot) (clear_of s slot) (refs s)
+      clear = All-weaker (λ n. stands_in s.creds slot n ≡ false) (λ n. slice_get (slot_use s).slots n ≢ Some slot) (clear_of s slot) (refs s)
           (none_passes (λ n. stands_in s.creds slot n) (refs s) (or_left _ (is_kept s slot) dead));
       unkept = All-weaker (λ k. (k == slot) ≡ false) (λ k. k ≢ slot) (λ k. eqb-false k slot) (kept s)
           (none_passes (λ k. k == slot) (kept s) (or_right _ (is_kept s slot) dead));

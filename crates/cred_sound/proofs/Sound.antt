@@ -17,7 +17,7 @@ use Rattle.cred_model.specs.Moves.{updated, overriding, altered_at}
 use Rattle.cred_model.specs.Step.{step}
 use Rattle.cred_model.proofs.Lists.{All-kept, All-remove, All-unmap, AllPairs-map, AllPairs-unmap, map_same}
 use Rattle.cred_model.proofs.Numbers.{updated_as, overriding_as, changed_as}
-use Rattle.cred_sound.specs.Ledger.{Ledger, ledger, referred, IsOrderly}
+use Rattle.cred_sound.specs.SlotUse.{SlotUse, slot_use, referred, IsOrderly}
 use Rattle.cred_sound.specs.Sound.{IsSound, StatesAreSound}
 use Rattle.cred_sound.proofs.Moves.{Apart, fewer, keeps, seals}
 use Rattle.cred_model.proofs.Referred.{refs_each, each_deferred}
@@ -109,39 +109,39 @@ all_refer script s event made c =
       deferred = weaker made.1.deferred c.deferred;
     })
 
--- ---- the ledger
+-- ---- the use of the slots
 
 -- first the sweep, if there is one
-swept_orderly : (s : State) (left : List ℕ) → All (Contains s.deferred) left → IsOrderly (ledger s) → IsOrderly (ledger (with_left s left))
+swept_orderly : (s : State) (left : List ℕ) → All (Contains s.deferred) left → IsOrderly (slot_use s) → IsOrderly (slot_use (with_left s left))
 swept_orderly s left among order =
-    fewer (ledger s) (in_use s) left (kept s)
+    fewer (slot_use s) (in_use s) left (kept s)
     (refs_each (Contains (refs s)) (with_left s left)
     (each_deferred (own_refs s) left
     (All-weaker (Contains s.deferred) (Contains (refs s)) (λ n has. All-contains (Contains (refs s)) s.deferred n (own_refs s).deferred has) left among)))
     (All-contains_itself (kept s)) order.own order
 
 -- then the slots that are kept
-abbrev with_kept : Ledger → List ℕ → Ledger
+abbrev with_kept : SlotUse → List ℕ → SlotUse
 with_kept l kept = record l { kept = kept }
 
 abbrev slot_of : Prepared → ℕ
 slot_of p = p.slot
 
 kept_orderly : (script : Script) (s : State) (event : Event) (left : List ℕ) (t : State) → PreparedChange script s event left t
-    → IsOrderly (ledger (with_left s left)) → IsOrderly (with_kept (ledger (with_left s left)) (kept t))
+    → IsOrderly (slot_use (with_left s left)) → IsOrderly (with_kept (slot_use (with_left s left)) (kept t))
 kept_orderly script s event left t (SamePrepared same) order =
-    subst (λ k. IsOrderly (with_kept (ledger (with_left s left)) k)) (ap (map slot_of) (sym same)) order
+    subst (λ k. IsOrderly (with_kept (slot_use (with_left s left)) k)) (ap (map slot_of) (sym same)) order
 kept_orderly script s event left t (Prepares p prepared fresh unheld new has free) order =
-    subst (λ k. IsOrderly (with_kept (ledger (with_left s left)) k))
+    subst (λ k. IsOrderly (with_kept (slot_use (with_left s left)) k))
     (sym (ap (map slot_of) prepared ∙ map_push slot_of s.prepared p))
-    (keeps (ledger (with_left s left)) p.slot free.below free.clear free.unkept order)
+    (keeps (slot_use (with_left s left)) p.slot free.below free.clear free.unkept order)
 kept_orderly script s event left t (Alters label to p base answer prepared is at so acts) order =
-    subst (λ k. IsOrderly (with_kept (ledger (with_left s left)) k))
+    subst (λ k. IsOrderly (with_kept (slot_use (with_left s left)) k))
     (sym
     (ap (map slot_of) prepared ∙ map_same slot_of (altered_at label to) s.prepared (λ p. changed_as (λ q. q.slot ≡ p.slot) label to p (λ test. refl) refl)))
     order
 kept_orderly script s event left t (Ends label place p ends prepared at is) order =
-    let now = ledger (with_left s left) in
+    let now = slot_use (with_left s left) in
     let rest = remove s.prepared place in
     subst (λ k. IsOrderly (with_kept now k)) (ap (map slot_of) (sym prepared))
     (fewer now (in_use s) left (map slot_of rest) (All-contains_itself (referred now))
@@ -159,29 +159,29 @@ not_new s t left n same (inr new) =
     let long = ap (λ (xs : List SealedCred). length xs) same in
     let more = new.1 in absurd (omega arith)
 
-old_or_new : (s t : State) (left : List ℕ) (n : ℕ) → OldOrNew s left t n → Old s left n ⊎ (n ≡ length (ledger s).slots)
+old_or_new : (s t : State) (left : List ℕ) (n : ℕ) → OldOrNew s left t n → Old s left n ⊎ (n ≡ length (slot_use s).slots)
 old_or_new s t left n (inl has) = inl has
 old_or_new s t left n (inr new) = inr (new.0 ∙ sym (length-map s.creds (λ (x : SealedCred). x.slot)))
 
-creds_orderly : (s : State) (event : Event) (left : List ℕ) (t : State) → CredsChange s event left t → IsOrderly (ledger s)
-    → All (OldOrNew s left t) (refs t) → IsOrderly (with_kept (ledger (with_left s left)) (kept t)) → IsOrderly (ledger t)
+creds_orderly : (s : State) (event : Event) (left : List ℕ) (t : State) → CredsChange s event left t → IsOrderly (slot_use s)
+    → All (OldOrNew s left t) (refs t) → IsOrderly (with_kept (slot_use (with_left s left)) (kept t)) → IsOrderly (slot_use t)
 creds_orderly s event left t (SameCreds same) before refer order =
-    let now = with_kept (ledger (with_left s left)) (kept t) in
-    subst (λ slots. IsOrderly (record (ledger t) { slots = slots })) (ap (map (λ (x : SealedCred). x.slot)) (sym same))
+    let now = with_kept (slot_use (with_left s left)) (kept t) in
+    subst (λ slots. IsOrderly (record (slot_use t) { slots = slots })) (ap (map (λ (x : SealedCred). x.slot)) (sym same))
     (fewer now (in_use t) t.deferred (kept t)
     (All-weaker (OldOrNew s left t) (Old s left) (λ n has. not_new s t left n same has) (refs t) refer)
     (All-contains_itself (kept t)) order.own order)
 creds_orderly s event left t (Seals c slot creds fits origin) before refer order =
-    let now = with_kept (ledger (with_left s left)) (kept t) in
+    let now = with_kept (slot_use (with_left s left)) (kept t) in
     let fit = fits before in
-    subst (λ slots. IsOrderly (record (ledger t) { slots = slots }))
+    subst (λ slots. IsOrderly (record (slot_use t) { slots = slots }))
     (sym (ap (map (λ (x : SealedCred). x.slot)) creds ∙ map_push (λ (x : SealedCred). x.slot) s.creds _))
     (seals now slot (in_use t) t.deferred fit.below fit.clear fit.unkept
     (All-weaker (OldOrNew s left t) (λ n. Old s left n ⊎ (n ≡ length now.slots)) (λ n has. old_or_new s t left n has) (refs t) refer)
     order)
 
 changes_orderly : (script : Script) (s : State) (event : Event) (made : Answer × State) → Changes script s event made
-    → IsOrderly (ledger s) → IsOrderly (ledger made.1)
+    → IsOrderly (slot_use s) → IsOrderly (slot_use made.1)
 changes_orderly script s event made c order =
     creds_orderly s event c.left made.1 c.creds order (all_refer script s event made c)
     (kept_orderly script s event c.left made.1 c.prepared (swept_orderly s c.left c.fewer order))
@@ -242,7 +242,7 @@ sound_after script journal = sound_from script journal (opening script) (opening
 -- ---- states that are alike
 
 -- Soundness asks only for what is the same in both.
-same_sound : (a b : State) → IsLike a b → ledger a ≡ ledger b → IsSound b → IsSound a
+same_sound : (a b : State) → IsLike a b → slot_use a ≡ slot_use b → IsSound b → IsSound a
 same_sound a b like same sound = record {
   tasks = subst (AllPairs (λ a b. a.number ≢ b.number)) (sym like.tasks) sound.tasks;
   broadcasts = subst (AllPairs (λ a b. a.number ≢ b.number)) (sym like.broadcasts) sound.broadcasts;
@@ -258,14 +258,14 @@ same_sound a b like same sound = record {
   slots = subst IsOrderly (sym same) sound.slots;
 }
 
-same_ledger : (a b : State) → IsLike a b → ledger a ≡ ledger b
+same_ledger : (a b : State) → IsLike a b → slot_use a ≡ slot_use b
 same_ledger a b like =
-    ap (λ ts. ledger (record a { tasks = ts })) like.tasks
-    ∙ ap (λ fs. ledger (record a { tasks = b.tasks; files = fs })) like.files
-    ∙ ap (λ hs. ledger (record a { tasks = b.tasks; files = b.files; holds = hs })) like.holds
-    ∙ ap (λ ps. ledger (record b { prepared = ps; deferred = a.deferred; dumpable = a.dumpable; creds = a.creds })) like.prepared
-    ∙ ap (λ ds. ledger (record b { deferred = ds; dumpable = a.dumpable; creds = a.creds })) like.deferred
-    ∙ ap (λ slots. record (ledger b) { slots = slots }) like.slots
+    ap (λ ts. slot_use (record a { tasks = ts })) like.tasks
+    ∙ ap (λ fs. slot_use (record a { tasks = b.tasks; files = fs })) like.files
+    ∙ ap (λ hs. slot_use (record a { tasks = b.tasks; files = b.files; holds = hs })) like.holds
+    ∙ ap (λ ps. slot_use (record b { prepared = ps; deferred = a.deferred; dumpable = a.dumpable; creds = a.creds })) like.prepared
+    ∙ ap (λ ds. slot_use (record b { deferred = ds; dumpable = a.dumpable; creds = a.creds })) like.deferred
+    ∙ ap (λ slots. record (slot_use b) { slots = slots }) like.slots
 
 pub like_sound : (a b : State) → IsLike a b → IsSound b → IsSound a
 like_sound a b like = same_sound a b like (same_ledger a b like)

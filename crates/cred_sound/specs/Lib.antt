@@ -1,5 +1,5 @@
-pub mod Ledger
+pub mod SlotUse
 pub mod Broadcasts
 pub mod Flags
 pub mod Sound
-pub mod Few
+pub mod TaskCount

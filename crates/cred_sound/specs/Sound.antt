@@ -5,7 +5,7 @@ use Rattle.cred_event.specs.declared.entry.Entry.{Entry}
 use Rattle.cred_model.specs.Script.{Script}
 use Rattle.cred_model.specs.State.{State, hold_of}
 use Rattle.cred_model.specs.Journal.{replay}
-use Rattle.cred_sound.specs.Ledger.{ledger, IsOrderly}
+use Rattle.cred_sound.specs.SlotUse.{slot_use, IsOrderly}
 use Rattle.cred_sound.specs.Broadcasts.{IsUnderWay}
 use Rattle.cred_sound.specs.Flags.{AreFlagged}
 
@@ -23,7 +23,7 @@ pub record IsSound (s : State) : Type 0 where
   pub holds : AllPairs (λ a b. a.label ≢ b.label) s.holds
   pub prepared : AllPairs (λ a b. a.label ≢ b.label) s.prepared
   pub labels : All (λ p. hold_of s p.label ≡ None) s.prepared
-  pub slots : IsOrderly (ledger s)
+  pub slots : IsOrderly (slot_use s)
 
 -- this holds after every journal
 abbrev pub StatesAreSound : Type 0

@@ -3,14 +3,14 @@
 //!
 //! Below the laws and the book, so that both take it from here. The proof goes by parts: what an
 //! event may change of the tasks, the broadcasts, the open files, the holds, the prepared labels
-//! and the sealed credentials, and the few moves of a ledger that these come to.
+//! and the sealed credentials, and the few moves of their use that these come to.
 #![tactic(auto)]
 
-ghost use Rattle.cred_sound.specs.Few.{TasksAreFew};
+ghost use Rattle.cred_sound.specs.TaskCount.{TasksAreFew};
 ghost use Rattle.cred_sound.specs.Sound.{StatesAreSound};
 
 /// In the state after any journal each reference is to a sealed credential, each sealed credential
-/// stands in one of the 256 slots, and two different credentials that are referred to stand in
+/// stands in one of the slots, and two different credentials that are referred to stand in
 /// different slots. The base of a prepared label is referred to as long as the label stands.
 ///
 /// No two tasks have one number, no two open files one descriptor, and no label is that of two

@@ -37,9 +37,9 @@ impl Spelling for Number {
 }
 
 /// A capability, by its number or its name.
-pub enum Cap {}
+pub enum SpelledCap {}
 
-impl Spelling for Cap {
+impl Spelling for SpelledCap {
     type Value = u32;
 
     ghost spelled = { spec.cap_of };
@@ -53,9 +53,9 @@ impl Spelling for Cap {
 }
 
 /// A task, as `t1`.
-pub enum Task {}
+pub enum SpelledTask {}
 
-impl Spelling for Task {
+impl Spelling for SpelledTask {
     type Value = u32;
 
     ghost spelled = { spec.spelled_task };
@@ -66,9 +66,9 @@ impl Spelling for Task {
 }
 
 /// A process, as `p1`.
-pub enum Process {}
+pub enum SpelledProcess {}
 
-impl Spelling for Process {
+impl Spelling for SpelledProcess {
     type Value = u32;
 
     ghost spelled = { spec.spelled_process };
@@ -79,9 +79,9 @@ impl Spelling for Process {
 }
 
 /// A label, as `h1`.
-pub enum Label {}
+pub enum SpelledLabel {}
 
-impl Spelling for Label {
+impl Spelling for SpelledLabel {
     type Value = u32;
 
     ghost spelled = { spec.spelled_label };
@@ -105,9 +105,9 @@ impl Spelling for Descriptor {
 }
 
 /// A namespace, as `n0`.
-pub enum Namespace {}
+pub enum SpelledNamespace {}
 
-impl Spelling for Namespace {
+impl Spelling for SpelledNamespace {
     type Value = u32;
 
     ghost spelled = { spec.namespace_of };

@@ -21,8 +21,8 @@ mod words;
 pub use bytes::bytes_of;
 pub use file_name::name_of;
 pub use kinds::{
-    Cap, Descriptor, Label, LaneNumber, LineNumber, Namespace, NewNamespace, Number, Parent,
-    Process, Spelling, Task,
+    Descriptor, LaneNumber, LineNumber, NewNamespace, Number, Parent, SpelledCap, SpelledLabel,
+    SpelledNamespace, SpelledProcess, SpelledTask, Spelling,
 };
 pub use line_words::split_first_line;
 pub use lines::{first_line, line_count};

@@ -2,7 +2,7 @@
 ghost use Rattle.std.specs.Prelude.{◌≡◌};
 ghost use Rattle.cred_spelling.specs.Names as spec;
 
-use crate::kinds::{Spelling, Task};
+use crate::kinds::{SpelledTask, Spelling};
 use crate::spellings::is;
 use crate::table::named;
 use cred_ids::Kind;
@@ -232,7 +232,7 @@ static FILE_CALL_NAMES: [(&str, FileCallName); 5] = [
 pub fn form_of(word: &[u8]) -> Option<Form>
     ensures { result ≡ spec.form_of word.now }
 {
-    if let Some(task) = Task::of(word) {
+    if let Some(task) = SpelledTask::of(word) {
         return Some(Form::Task(task));
     }
     named(&FORMS, word)

@@ -29,13 +29,13 @@ use Rattle.cred_model.proofs.Numbers.{owner_number}
 use Rattle.cred_sound.specs.Broadcasts.{IsThread, IsUnderWay}
 use Rattle.cred_sound.specs.Sound.{IsSound}
 use Rattle.cred_sound.proofs.Threads.{thread_is, waits_at}
-use Rattle.cred_cast.specs.Broadcasts.{MakesOf}
-use Rattle.cred_cast.proofs.Conditions.{least_waits}
+use Rattle.cred_broadcasts.specs.Broadcasts.{MakesOf}
+use Rattle.cred_broadcasts.proofs.Conditions.{least_waits}
 use Rattle.cred_hold.specs.Tokens.{Mastered}
 use Rattle.cred_slots.specs.Table.{Table, IsSameBag}
 use Rattle.cred_slots.specs.Table as table
 use Rattle.cred_tables.specs.Begin.{table_at}
-use Rattle.cred_tables.specs.Kept.{Parts, state_of, IsKept, Seals}
+use Rattle.cred_tables.specs.Kept.{StateLists, state_of, IsKept, Seals}
 use Rattle.cred_state.proofs.Begins.{replaced_kept, replaced_made, counts_next}
 use Rattle.cred_state.proofs.Broadcasts.{kept_beside}
 use Rattle.cred_tables.proofs.Ending.{DropsAll, drops_all, ended_kept, ended_is}
@@ -208,12 +208,12 @@ makes_so (Some b) own old parts groups ids_changed becomes same differs_so = rec
 
 -- ---- a process that ends
 
-abort_table : (cause : AbortCause) (parts : Parts) (store : List (Option Credential)) (t : Table)
+abort_table : (cause : AbortCause) (parts : StateLists) (store : List (Option Credential)) (t : Table)
     → at_abort cause (state_of parts store t) ≡ state_of parts store (table_at cause t)
 abort_table Perm parts store t = refl
 abort_table Full parts store t = refl
 
-pub abort_keeps : (cause : AbortCause) {parts : Parts} {store : List (Option Credential)} {t : Table} → IsKept parts store t
+pub abort_keeps : (cause : AbortCause) {parts : StateLists} {store : List (Option Credential)} {t : Table} → IsKept parts store t
     → IsKept parts store (table_at cause t)
 abort_keeps Perm is = is
 abort_keeps Full {t = t} is = record {
@@ -260,7 +260,7 @@ aborts_so s left number task cause after next (Ok answer) same is ends gives =
 aborts_so s left number task cause after next (Err e) same is ends gives = tt
 
 -- more room to spare in the table changes nothing
-pub same_spare : (parts : Parts) (store : List (Option Credential)) (t : Table) {r : Table} {m : ℕ} → r ≡ record t { spare = m }
+pub same_spare : (parts : StateLists) (store : List (Option Credential)) (t : Table) {r : Table} {m : ℕ} → r ≡ record t { spare = m }
     → state_of parts store r ≡ state_of parts store t
 same_spare parts store t is = ap (λ (x : Table). state_of parts store x) is
 
@@ -270,9 +270,9 @@ pub ends_all : (cause : AbortCause) (t : Table) {swept after : Table} {given num
     → DropsAll (table_at cause t) after numbers
 ends_all cause t {swept = swept} is same held made = drops_all (table_at cause t) {r = swept} {m = (table_at cause t).spare} is same held made
 
-module _ {parts : Parts} {store : List (Option Credential)} {t : Table} (is : IsKept parts store t) (cause : AbortCause) (process : ℕ)
+module _ {parts : StateLists} {store : List (Option Credential)} {t : Table} (is : IsKept parts store t) (cause : AbortCause) (process : ℕ)
     (after : Table) (all : DropsAll (table_at cause t) after (left_by (is_thread_of process) parts.tasks)) where
-  abbrev left : Parts
+  abbrev left : StateLists
   left = record parts {
     tasks = survivors (is_thread_of process) parts.tasks;
     broadcasts = dropped process parts.broadcasts;
@@ -295,7 +295,7 @@ module _ {parts : Parts} {store : List (Option Credential)} {t : Table} (is : Is
 
 -- ---- a step
 
-module _ {parts : Parts} {store : List (Option Credential)} {t : Table} (is : IsKept parts store t) (number task : ℕ)
+module _ {parts : StateLists} {store : List (Option Credential)} {t : Table} (is : IsKept parts store t) (number task : ℕ)
     (next : IsNext (state_of parts store t) number task) (old : Numbered) (current : current_of (state_of parts store t) task ≡ Some old) (new : Credential)
     (rule : set_id old.cred next.broadcast.call ≡ Ok new) where
   abbrev s : State
@@ -313,7 +313,7 @@ module _ {parts : Parts} {store : List (Option Credential)} {t : Table} (is : Is
     abbrev pub flags : List ProcessFlag
     flags = renewed parts.dumpable next.owner.process (differs old.cred new)
 
-    abbrev pub end : Parts
+    abbrev pub end : StateLists
     end = record parts {
       tasks = with_current parts.tasks task sealed;
       broadcasts = waits_no_more task parts.broadcasts;

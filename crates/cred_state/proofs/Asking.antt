@@ -8,17 +8,17 @@ use Rattle.cred_event.specs.declared.event.Query.{Query}
 use Rattle.cred_record.specs.declared.want.Want.{Want}
 use Rattle.cred_hold.specs.Tokens.{Loan, Held, Written, loan}
 use Rattle.cred_work.specs.Decisions.{AreOf, work_event}
-use Rattle.cred_work.specs.declared.lent.Lent.{Lent}
-use Rattle.cred_work.specs.declared.lent.Lent.TheVariants.{Asking, Opening, Signalling, Altering}
+use Rattle.cred_work.specs.declared.pending.Pending.{Pending}
+use Rattle.cred_work.specs.declared.pending.Pending.TheVariants.{Asking, Opening, Signalling, Altering}
 use Rattle.cred_model.specs.State.{Numbered, held_by}
 use Rattle.cred_sound.specs.Sound.{IsSound}
 use Rattle.cred_tables.specs.Kept.{Standing, creds_in}
 use Rattle.cred_tables.specs.Out.{AreHome, AreOut, ArePut, hold_token, tokens_in}
-use Rattle.cred_tables.proofs.Outs.{hold_token_is, kept_tokens_are}
+use Rattle.cred_tables.proofs.TokensOfLabels.{hold_token_is, kept_tokens_are}
 use Rattle.cred_state.specs.TokensOut.{IsKeptBy, IsStanding, loans_of}
 
 -- The tokens were lent of this state, under labels that nothing else was lent under.
-pub record WereLent (before : Standing) (lent : Lent) : Type 0 where
+pub record WereLent (before : Standing) (lent : Pending) : Type 0 where
   pub cells : TableId
   pub of : AreOf cells lent
   pub tokens : loans_of lent ≡ tokens_in before.state (work_event lent)
@@ -29,7 +29,7 @@ pub record WereLent (before : Standing) (lent : Lent) : Type 0 where
   pub slots : List ℕ
   pub creds : before.state.creds ≡ creds_in before.places slots
 
-pub were_of : (before : Standing) (cells : TableId) (lent : Lent) (event : Event) → work_event lent ≡ event → AreOf cells lent
+pub were_of : (before : Standing) (cells : TableId) (lent : Pending) (event : Event) → work_event lent ≡ event → AreOf cells lent
     → loans_of lent ≡ tokens_in before.state event → IsSound before.state → AreOut before.state before.words.out → AreHome event before.words.out
     → IsStanding before → WereLent before lent
 were_of before cells lent event named of tokens sound out home standing = record {

@@ -35,12 +35,12 @@ use Rattle.cred_sound.specs.Broadcasts.{IsThread}
 use Rattle.cred_sound.specs.Sound.{IsSound}
 use Rattle.cred_sound.proofs.Threads.{beside_is, finds_itself, is_thread}
 use Rattle.cred_decide.specs.Refusals.{IsDenied}
-use Rattle.cred_cast.proofs.Conditions.{idle_waits_nowhere}
+use Rattle.cred_broadcasts.proofs.Conditions.{idle_waits_nowhere}
 use Rattle.cred_procs.specs.Tasks.{those}
 use Rattle.cred_slots.specs.Table.{Table, IsSameBag, IsOnlyUser}
 use Rattle.cred_slots.specs.Table as table
 use Rattle.cred_tables.specs.Begin.{MayBegin, MayWait, broadcast_begun}
-use Rattle.cred_tables.specs.Kept.{Parts, state_of, IsKept, Seals}
+use Rattle.cred_tables.specs.Kept.{StateLists, state_of, IsKept, Seals}
 use Rattle.cred_tables.proofs.Filled.{filled_put, no_more_dropped, no_more_sealed}
 use Rattle.cred_tables.proofs.Bags.{bag-other}
 use Rattle.cred_state.proofs.Broadcasts.{kept_beside, like_beside}
@@ -139,7 +139,7 @@ module _ (s : State) (line task : ℕ) (call : IdCall) where
           → outcome s (by_begin s line task call) ≡ (Overridden depth, s)
       begin_overridden new depth over = rw (lives, own_there, idle, new, over) refl
 
-module _ {parts : Parts} {store : List (Option Credential)} {t : Table} (is : IsKept parts store t)
+module _ {parts : StateLists} {store : List (Option Credential)} {t : Table} (is : IsKept parts store t)
     (after : Table) (task : ℕ) (old : Numbered) (new : Credential) (has : current_of (state_of parts store t) task ≡ Some old) where
   abbrev s : State
   s = state_of parts store t

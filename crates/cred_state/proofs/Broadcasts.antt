@@ -9,7 +9,7 @@ use Rattle.cred_model.specs.State.{State, Broadcast, ProcessFlag}
 use Rattle.cred_model.specs.Broadcasts.{not_busy}
 use Rattle.cred_model.specs.Like.{IsLike}
 use Rattle.cred_slots.specs.Table.{Table}
-use Rattle.cred_tables.specs.Kept.{Parts, IsKept}
+use Rattle.cred_tables.specs.Kept.{StateLists, IsKept}
 
 -- the number of the broadcast that was found, if one was
 pub busy_by : (found : Option Broadcast) (number : Option ℕ) → number ≡ option_map (λ b. b.number) found
@@ -23,7 +23,7 @@ busy_by (Some b) (Some n) is =
     ap refused same
 
 -- Broadcasts refer to nothing.
-pub kept_broadcasts : {parts : Parts} {store : List (Option Credential)} {t : Table} → IsKept parts store t → (broadcasts : List Broadcast)
+pub kept_broadcasts : {parts : StateLists} {store : List (Option Credential)} {t : Table} → IsKept parts store t → (broadcasts : List Broadcast)
     → IsKept (record parts { broadcasts = broadcasts }) store t
 kept_broadcasts is broadcasts = record { counted = is.counted; filled = is.filled }
 
@@ -38,13 +38,13 @@ like_broadcasts like broadcasts = record {
   prepared = like.prepared;
   deferred = like.deferred;
   dumpable = like.dumpable;
-  infos = like.infos;
+  inodes = like.inodes;
   slots = like.slots;
   creds = like.creds;
 }
 
 -- Nor do the flags of the processes.
-pub kept_beside : {parts : Parts} {store : List (Option Credential)} {t : Table}
+pub kept_beside : {parts : StateLists} {store : List (Option Credential)} {t : Table}
     → IsKept parts store t → (broadcasts : List Broadcast) (flags : List ProcessFlag)
     → IsKept (record parts { broadcasts = broadcasts; dumpable = flags }) store t
 kept_beside is broadcasts flags = record { counted = is.counted; filled = is.filled }
@@ -60,7 +60,7 @@ like_beside like broadcasts flags = record {
   prepared = like.prepared;
   deferred = like.deferred;
   dumpable = refl;
-  infos = like.infos;
+  inodes = like.inodes;
   slots = like.slots;
   creds = like.creds;
 }

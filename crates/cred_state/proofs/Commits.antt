@@ -26,8 +26,8 @@ use Rattle.cred_slots.specs.Table.{Table, IsSameBag, is_kept_in}
 use Rattle.cred_slots.proofs.Counting.{count-cons}
 use Rattle.cred_sound.proofs.Survivors.{find_goes_on}
 use Rattle.cred_tables.specs.Prepared.{changed_of}
-use Rattle.cred_tables.specs.Kept.{Parts, creds_in, state_of, IsKept, SealsKept}
-use Rattle.cred_tables.proofs.Back.{set_same}
+use Rattle.cred_tables.specs.Kept.{StateLists, creds_in, state_of, IsKept, SealsKept}
+use Rattle.cred_tables.proofs.Returned.{set_same}
 use Rattle.cred_tables.proofs.Bags.{bag-at, counts_itself}
 use Rattle.cred_state.proofs.Broadcasts.{kept_beside, like_beside}
 use Rattle.cred_model.proofs.Places.{find-at, place-of_found}
@@ -157,7 +157,7 @@ goes_on {change = change} {tasks = tasks} {task = task} e =
 
 -- The tasks that the commit ends have ended, and what they referred to was given up in the table
 -- `t'`.
-module _ {parts : Parts} {after : List Task} {store : List (Option Credential)} {t t' : Table} (is : IsKept parts store t)
+module _ {parts : StateLists} {after : List Task} {store : List (Option Credential)} {t t' : Table} (is : IsKept parts store t)
     (change : Change) (now task : ℕ) {ended_tasks : List ℕ} (e : EndsWith change parts.tasks after t t' task now ended_tasks) where
   kept_on : IsKept (record parts { tasks = after }) store t'
   kept_on =
@@ -175,13 +175,13 @@ module _ {parts : Parts} {after : List Task} {store : List (Option Credential)} 
       subst (λ (n : ℕ). 0 < count_by (λ m. m == n) t'.held) e.current
       (bag-at e.owner.current kept_on.counted.counts (current-stands (state_of (record parts { tasks = after }) store t') task e.owner (goes_on e)))
 
-module _ {parts : Parts} {after : List Task} {store : List (Option Credential)} {t t' : Table} (is : IsKept parts store t)
+module _ {parts : StateLists} {after : List Task} {store : List (Option Credential)} {t t' : Table} (is : IsKept parts store t)
     (place : ℕ) (p : Prepared) (there : slice_get parts.prepared place ≡ Some p)
     (change : Change) (now : ℕ) {ended_tasks : List ℕ} (e : EndsWith change parts.tasks after t t' p.task now ended_tasks) where
   abbrev before : State
   before = state_of parts store t
 
-  abbrev on : Parts
+  abbrev on : StateLists
   on = record parts { tasks = after }
 
   lives_on : find (λ u. u.number == p.task) after ≡ Some e.owner
@@ -215,7 +215,7 @@ module _ {parts : Parts} {after : List Task} {store : List (Option Credential)} 
       abbrev flags : List ProcessFlag
       flags = flags_committed before e.owner last
 
-      abbrev end : Parts
+      abbrev end : StateLists
       end = record parts {
         tasks = updated;
         broadcasts = broadcasts_left change e.owner.process parts.broadcasts;

@@ -14,7 +14,7 @@ use Rattle.cred_model.specs.Step.{outcome}
 use Rattle.cred_model.proofs.Numbers.{numbered_is}
 use Rattle.cred_procs.specs.Tasks.{forked, has_process, spawned}
 use Rattle.cred_slots.specs.Table.{Table}
-use Rattle.cred_tables.specs.Kept.{Parts, state_of}
+use Rattle.cred_tables.specs.Kept.{StateLists, state_of}
 use Rattle.cred_tables.proofs.Owners.{own_none}
 use Rattle.cred_state.proofs.Inits.{few_tasks}
 use Rattle.cred_state.specs.Refusals.{by_creating, IsUnusedProcess, MayCreate}
@@ -58,7 +58,7 @@ module _ (s : State) (task child : ℕ) where
 
 -- ---- a task is created
 
-module _ (parts : Parts) (store : List (Option Credential)) (t : Table) {r later : Table} {m k : ℕ} (spared : r ≡ record t { spare = m })
+module _ (parts : StateLists) (store : List (Option Credential)) (t : Table) {r later : Table} {m k : ℕ} (spared : r ≡ record t { spare = m })
     (made : later ≡ record r { held = later.held; spare = k }) (task child : ℕ) (now : Numbered) (may : MayCreate (state_of parts store t) task child now) where
   abbrev s : State
   s = state_of parts store t
@@ -69,7 +69,7 @@ module _ (parts : Parts) (store : List (Option Credential)) (t : Table) {r later
   number : may.owner.current ≡ now.number
   number = sym (numbered_is s.creds may.owner.current now there).0
 
-  same : (after : Parts) → state_of after store t ≡ state_of after store later
+  same : (after : StateLists) → state_of after store t ≡ state_of after store later
   same after = sym (ap (state_of after store) made ∙ ap (state_of after store) spared)
 
   pub spawn_done : {tasks : List Task} {broadcasts : List Broadcast} → tasks ≡ spawned parts.tasks task child → broadcasts ≡ joined task child parts.broadcasts

@@ -19,18 +19,18 @@ use Rattle.cred_model.specs.Like.{IsLike}
 use Rattle.cred_model.proofs.Lists.{All-at}
 use Rattle.cred_model.proofs.Places.{if_some, place-of_found}
 use Rattle.cred_names.specs.Labels.{event_labels}
-use Rattle.cred_sound.specs.Ledger.{ledger}
+use Rattle.cred_sound.specs.SlotUse.{slot_use}
 use Rattle.cred_sound.specs.Sound.{IsSound}
 use Rattle.cred_sound.proofs.Sound.{like_sound}
 use Rattle.cred_words.specs.Lists.{Has, IsTaken}
 use Rattle.cred_hold.specs.Tokens.{Loan, Held, Written, loan, IsAlone}
 use Rattle.cred_work.specs.Decisions.{work_event, put_by}
-use Rattle.cred_work.specs.declared.lent.Lent.{Lent}
-use Rattle.cred_work.specs.declared.lent.Lent.TheVariants.{Asking, Opening, Signalling, Altering}
+use Rattle.cred_work.specs.declared.pending.Pending.{Pending}
+use Rattle.cred_work.specs.declared.pending.Pending.TheVariants.{Asking, Opening, Signalling, Altering}
 use Rattle.cred_tables.specs.Kept.{Standing, creds_in}
 use Rattle.cred_tables.specs.Out.{AreHome, AreOut, cleared, hold_token, kept_tokens, tokens_in}
-use Rattle.cred_tables.proofs.Back.{back_new, has_taken, set_again}
-use Rattle.cred_tables.proofs.Outs.{IsToken, has_first, has_last, has_out, held_token, kept_alone, kept_token, out_like}
+use Rattle.cred_tables.proofs.Returned.{back_new, has_taken, set_again}
+use Rattle.cred_tables.proofs.TokensOfLabels.{IsToken, has_first, has_last, has_out, held_token, kept_alone, kept_token, out_like}
 use Rattle.cred_tables.proofs.Puts.{was_put}
 use Rattle.cred_tables.proofs.Stored.{slots-creds_in}
 use Rattle.cred_state.specs.TokensOut.{AreTaken, IsChainOf, IsKeptBy, IsNs, earlier_of, loans_of, hold_loan, with_hold, with_kept, with_lent}
@@ -67,16 +67,16 @@ tokens_out s event = All-nil (λ e. IsToken s e)
 
 -- ---- while tokens are lent
 
-pub lent_words : (before : Standing) (lent : Lent) → (with_lent before lent).words ≡ record before.words { out = loans_of lent ++ before.words.out }
+pub lent_words : (before : Standing) (lent : Pending) → (with_lent before lent).words ≡ record before.words { out = loans_of lent ++ before.words.out }
 lent_words before (Asking hold query told) = refl
 lent_words before (Opening hold file want fd may) = refl
 lent_words before (Signalling from hold to target may) = refl
 lent_words before (Altering base writer change made) = refl
 
-pub lent_out : (before : Standing) (lent : Lent) → (with_lent before lent).words.out ≡ loans_of lent ++ before.words.out
+pub lent_out : (before : Standing) (lent : Pending) → (with_lent before lent).words.out ≡ loans_of lent ++ before.words.out
 lent_out before lent = ap (λ w. w.out) (lent_words before lent)
 
-module _ {before : Standing} {lent : Lent} (were : WereLent before lent) where
+module _ {before : Standing} {lent : Pending} (were : WereLent before lent) where
   abbrev now : Standing
   now = with_lent before lent
 
@@ -160,7 +160,7 @@ module _ (before : Standing) (base : Held) (writer : Written) (ch : Change) (mad
       ∙ slots-creds_in before.places were.slots
 
   pub creds_again : (places : List (Option Credential)) → places ≡ before.places
-      → creds_in places (ledger (with_kept before base writer).state).slots ≡ before.state.creds
+      → creds_in places (slot_use (with_kept before base writer).state).slots ≡ before.state.creds
   creds_again places same =
       (λ k. creds_in (same k) (slots_again k)) ∙ sym were.creds
 
@@ -188,7 +188,7 @@ module _ (before old mid new : Standing) where
       → new.state ≡ mid.state → new.places ≡ mid.places → new.words.id ≡ mid.words.id
       → IsTaken mid.words.out (hold_loan hold) new.words.out → new ≡ before
   back_two from to hold target may were is state places id taken state' places' id' taken' =
-      let lent : Lent = Signalling from hold to target may in
+      let lent : Pending = Signalling from hold to target may in
       let on : AreTaken (loans_of lent) (with_lent before lent).words.out new.words.out
       = subst (λ (x : Standing). AreTaken (loans_of lent) x.words.out new.words.out) is (mid.words.out, taken, (new.words.out, taken', refl)) in
       standing_is (state' ∙ state ∙ ap (λ (x : Standing). x.state) is) (id' ∙ id ∙ ap (λ (x : Standing). x.words.id) is) (lent_back were new.words.out on)
@@ -197,7 +197,7 @@ module _ (before old mid new : Standing) where
   pub back_kept : (base : Held) (writer : Written) (ch : Change) (made : Option (Result Made Answer)) → writer.label ≡ base.label
       → WereLent before (Altering base writer ch made) → old ≡ with_kept before base writer
       → AreOut old.state old.words.out
-      → mid.state ≡ record old.state { creds = creds_in mid.places (ledger old.state).slots }
+      → mid.state ≡ record old.state { creds = creds_in mid.places (slot_use old.state).slots }
       → mid.places ≡ slice_set old.places writer.slot (earlier_of old.state base.label) → mid.words.id ≡ old.words.id
       → IsTaken old.words.out (loan writer.label writer.slot None) mid.words.out
       → new.state ≡ mid.state → new.places ≡ mid.places → new.words.id ≡ mid.words.id
@@ -215,9 +215,9 @@ module _ (before old mid new : Standing) where
       let again : mid.places ≡ before.places
       = places_again before base writer ch done were label for w.preparation w.prepared w.is mid.places
       (places ∙ ap (λ (x : Standing). slice_set x.places writer.slot (earlier_of x.state label)) is) in
-      let creds : creds_in mid.places (ledger lent.state).slots ≡ before.state.creds
+      let creds : creds_in mid.places (slot_use lent.state).slots ≡ before.state.creds
       = creds_again before base writer ch done were label for w.preparation w.prepared w.is mid.places again in
       let made : mid.state ≡ before.state
-      = state ∙ ap (λ (x : Standing). record x.state { creds = creds_in mid.places (ledger x.state).slots }) is
+      = state ∙ ap (λ (x : Standing). record x.state { creds = creds_in mid.places (slot_use x.state).slots }) is
       ∙ ap (λ (cs : List SealedCred). record before.state { creds = cs }) creds in
       standing_is (state' ∙ made) (id' ∙ id ∙ ap (λ (x : Standing). x.words.id) is) (lent_back were new.words.out on) (places' ∙ again)

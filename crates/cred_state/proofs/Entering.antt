@@ -26,7 +26,7 @@ use Rattle.cred_model.specs.Step.{outcome}
 use Rattle.cred_model.proofs.Places.{if_some}
 use Rattle.cred_hold.specs.Tokens.{Loan}
 use Rattle.cred_tables.specs.Out.{AreSameTokens}
-use Rattle.cred_tables.proofs.Back.{count_one, taken_count}
+use Rattle.cred_tables.proofs.Returned.{count_one, taken_count}
 use Rattle.cred_state.specs.TokensOut.{AreTaken, IsBase, IsChainOf, IsMadeOf}
 
 -- ---- a file
@@ -42,19 +42,19 @@ module _ (s : State) (label file : ℕ) (want : Want) (fd : ℕ) where
     pub open_exists : is_some (open_of s fd) ≡ true → outcome s (by_open s label file want fd) ≡ (Exists named.File fd, s)
     open_exists there = rw (at, there) refl
 
-    module _ (may : Bool) (right : IfSome (held_by s label) (λ held. checked held.cred (info_of s.infos (file ∷ [])) want ≡ (if may then Done else Eacces)))
+    module _ (may : Bool) (right : IfSome (held_by s label) (λ held. checked held.cred (info_of s.inodes (file ∷ [])) want ≡ (if may then Done else Eacces)))
         (new : open_of s fd ≡ None) where
-      checks : checked held.cred (info_of s.infos (file ∷ [])) want ≡ (if may then Done else Eacces)
+      checks : checked held.cred (info_of s.inodes (file ∷ [])) want ≡ (if may then Done else Eacces)
       checks =
-          if_some (λ (h : Numbered). checked h.cred (info_of s.infos (file ∷ [])) want ≡ (if may then Done else Eacces)) (held_by s label) held at right
+          if_some (λ (h : Numbered). checked h.cred (info_of s.inodes (file ∷ [])) want ≡ (if may then Done else Eacces)) (held_by s label) held at right
 
       pub open_refused : may ≡ false → outcome s (by_open s label file want fd) ≡ (Eacces, s)
       open_refused is =
-          let refused : checked held.cred (info_of s.infos (file ∷ [])) want ≡ Eacces = checks ∙ ap (λ (b : Bool). if b then Done else Eacces) is in
+          let refused : checked held.cred (info_of s.inodes (file ∷ [])) want ≡ Eacces = checks ∙ ap (λ (b : Bool). if b then Done else Eacces) is in
           rw (at, new, refused) refl
 
       module _ (allowed : may ≡ true) where
-        may_be : checked held.cred (info_of s.infos (file ∷ [])) want ≡ Done
+        may_be : checked held.cred (info_of s.inodes (file ∷ [])) want ≡ Done
         may_be = checks ∙ ap (λ (b : Bool). if b then Done else Eacces) allowed
 
         pub open_full : nat_lt (length s.files) OPEN_FILES ≡ false → outcome s (by_open s label file want fd) ≡ (TooMany counted.Files, s)
@@ -83,15 +83,15 @@ module _ (script : Script) (s : State) (label : ℕ) (ch : Change) (p : Prepared
       (if_some (λ (q : Prepared). IfSome (numbered s.creds q.base) (λ b. b.cred ≡ own)) (prepared_of s label) p prepared of)
 
   by_same : IsChainOf script ch own.ns chain
-      → by_change (info_of s.infos (change_files ch)) (chain_of script base.cred.ns) base.cred ch ≡ by_change (info_of s.infos (change_files ch)) chain own ch
+      → by_change (info_of s.inodes (change_files ch)) (chain_of script base.cred.ns) base.cred ch ≡ by_change (info_of s.inodes (change_files ch)) chain own ch
   by_same is =
-      ap (λ (c : Credential). by_change (info_of s.infos (change_files ch)) (chain_of script c.ns) c ch) base_is
-      ∙ sym (chain_right script ch own.ns chain (info_of s.infos (change_files ch)) own is)
+      ap (λ (c : Credential). by_change (info_of s.inodes (change_files ch)) (chain_of script c.ns) c ch) base_is
+      ∙ sym (chain_right script ch own.ns chain (info_of s.inodes (change_files ch)) own is)
 
-  pub alter_refused : (answer : Answer) → IsMadeOf script s.infos chain own ch (Err answer) → outcome s (by_alter script s label ch) ≡ (answer, s)
+  pub alter_refused : (answer : Answer) → IsMadeOf script s.inodes chain own ch (Err answer) → outcome s (by_alter script s label ch) ≡ (answer, s)
   alter_refused answer (is, refused) = rw (prepared, sealed, by_same is ∙ sym refused) refl
 
-  pub alter_made : (made : Made) → IsMadeOf script s.infos chain own ch (Ok made)
+  pub alter_made : (made : Made) → IsMadeOf script s.inodes chain own ch (Ok made)
       → outcome s (by_alter script s label ch) ≡ (made.answer, altered s label (record { change = ch; cred = made.cred; gains = made.gains }))
   alter_made made (is, done) = rw (prepared, sealed, by_same is ∙ sym done) refl
 

@@ -18,12 +18,12 @@ use Rattle.cred_model.specs.Step.{outcome}
 use Rattle.cred_decide.specs.Refusals.{IsDenied}
 use Rattle.cred_decide.proofs.Denied.{denied}
 use Rattle.cred_slots.specs.Table.{Table}
-use Rattle.cred_tables.specs.Kept.{Parts, IsKept}
+use Rattle.cred_tables.specs.Kept.{StateLists, IsKept}
 
 -- The files refer to nothing.
-pub kept_infos : {parts : Parts} {store : List (Option Credential)} {t : Table}
-    → IsKept parts store t → (infos : List File) → IsKept (record parts { infos = infos }) store t
-kept_infos is infos = record { counted = is.counted; filled = is.filled }
+pub kept_inodes : {parts : StateLists} {store : List (Option Credential)} {t : Table}
+    → IsKept parts store t → (inodes : List File) → IsKept (record parts { inodes = inodes }) store t
+kept_inodes is inodes = record { counted = is.counted; filled = is.filled }
 
 -- ---- what a rule has made
 
@@ -53,10 +53,10 @@ held_cred (Some held) c is = (held, refl, cc)
 pub file_changed : (s : State) (hold place : ℕ) (rule : Credential → File → Result File Denial)
     (c : Credential) (file : File)
     → option_map (λ held. held.cred) (held_by s hold) ≡ Some c
-    → slice_get s.infos place ≡ Some file
+    → slice_get s.inodes place ≡ Some file
     → (new : File) → rule c file ≡ Ok new
     → outcome s (by_file s hold place rule)
-    ≡ (Done, record s { infos = slice_set s.infos place new })
+    ≡ (Done, record s { inodes = slice_set s.inodes place new })
 file_changed s hold place rule c file holds there new is =
     let held = held_cred (held_by s hold) c holds in
     let made : rule held.0.cred file ≡ Ok new = ap (λ (x : Credential). rule x file) held.2 ∙ is in
@@ -66,7 +66,7 @@ file_changed s hold place rule c file holds there new is =
 pub file_refused : (s : State) (hold place : ℕ) (rule : Credential → File → Result File Denial)
     (c : Credential) (file : File)
     → option_map (λ held. held.cred) (held_by s hold) ≡ Some c
-    → slice_get s.infos place ≡ Some file
+    → slice_get s.inodes place ≡ Some file
     → {E : Type 0} (answered : Result Answer E) (why : Refusal) → AnswersBy (Err why) (rule c file)
     → IfOk answered (IsDenied why)
     → IfOk answered (λ answer. outcome s (by_file s hold place rule) ≡ (answer, s))

@@ -9,7 +9,7 @@ use Rattle.cred_model.specs.Slots.{in_use, kept}
 use Rattle.cred_model.specs.Like.{IsLike}
 use Rattle.cred_slots.specs.Table.{Table, IsSameBag, IsOnlyUser}
 use Rattle.cred_slots.proofs.Counting.{count-cons}
-use Rattle.cred_tables.specs.Kept.{Parts, creds_in, state_of, IsKept, SealsKept}
+use Rattle.cred_tables.specs.Kept.{StateLists, creds_in, state_of, IsKept, SealsKept}
 use Rattle.cred_tables.proofs.Filled.{NoMore, filled_put, no_more_finished}
 use Rattle.cred_tables.proofs.InUse.{in_use-unlabel}
 use Rattle.cred_state.proofs.Labelling.{keeps-less}
@@ -17,12 +17,12 @@ use Rattle.cred_tables.proofs.Stored.{parts_in, stored_like}
 
 -- The tasks refer to the new number already, and so does the table `mid` when its references are
 -- counted; what stands there and is kept is as before, and nothing else is referred to than before.
-module _ {parts : Parts} {store : List (Option Credential)} {t : Table} (is : IsKept parts store t)
+module _ {parts : StateLists} {store : List (Option Credential)} {t : Table} (is : IsKept parts store t)
     (place : ℕ) (p : Prepared) (there : slice_get parts.prepared place ≡ Some p) (own : AllPairs (λ a b. a ≢ b) (kept (state_of parts store t)))
     (tasks : List Task) {mid : Table} (after : Table) (number : ℕ) (sealed : mid.sealed ≡ t.sealed) (keeps : mid.kept ≡ t.kept) (fewer : NoMore t mid)
     (refer : IsSameBag (number ∷ mid.held) (in_use (record (state_of parts store t) { tasks = tasks })))
     (within : p.slot < length store) (seals : SealsKept mid after number p.base p.slot) (c : Credential) where
-  abbrev pub done_parts : Parts
+  abbrev pub done_parts : StateLists
   done_parts = record parts { tasks = tasks; prepared = remove parts.prepared place }
 
   abbrev pub put : List (Option Credential)

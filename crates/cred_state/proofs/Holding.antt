@@ -8,7 +8,7 @@ use Rattle.cred_model.specs.State.{State, Hold, Numbered, numbered_in}
 use Rattle.cred_model.specs.LabelEvents.{by_release, take_hold}
 use Rattle.cred_model.specs.Step.{outcome}
 use Rattle.cred_slots.specs.Table.{Table}
-use Rattle.cred_tables.specs.Kept.{Parts, state_of, IsKept}
+use Rattle.cred_tables.specs.Kept.{StateLists, state_of, IsKept}
 use Rattle.cred_tables.proofs.Bags.{bag-has, bag-at}
 use Rattle.cred_model.proofs.Places.{place-of_found}
 use Rattle.cred_tables.proofs.Sealing.{Drops, keeps_same, kept_less, over_later}
@@ -21,7 +21,7 @@ pub takes_hold : (s after : State) {E : Type 0} (event : Result (Answer × State
 takes_hold s after event label taken is (Ok answer) gives = ap (λ (r : Result (Answer × State) Answer). outcome s r) is ∙ gives
 takes_hold s after event label taken is (Err e) gives = tt
 
-module _ {parts : Parts} {store : List (Option Credential)} {t : Table} (is : IsKept parts store t) where
+module _ {parts : StateLists} {store : List (Option Credential)} {t : Table} (is : IsKept parts store t) where
   abbrev s : State
   s = state_of parts store t
 
@@ -35,7 +35,7 @@ module _ {parts : Parts} {store : List (Option Credential)} {t : Table} (is : Is
       hold-held at.0 h at.2
 
   module _ (after : Table) (place : ℕ) (h : Hold) (there : slice_get parts.holds place ≡ Some h) (less : Drops t after h.number) where
-    abbrev left : Parts
+    abbrev left : StateLists
     left = record parts { holds = remove parts.holds place }
 
     pub release_kept : IsKept left store after

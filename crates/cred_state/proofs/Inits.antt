@@ -19,7 +19,7 @@ use Rattle.cred_model.specs.Step.{outcome}
 use Rattle.cred_model.proofs.Likes.{does_same}
 use Rattle.cred_slots.specs.Table.{Table, IsOnlyUser, IsSameBag}
 use Rattle.cred_slots.specs.Table as table
-use Rattle.cred_tables.specs.Kept.{Parts, state_of, IsKept, Seals}
+use Rattle.cred_tables.specs.Kept.{StateLists, state_of, IsKept, Seals}
 use Rattle.cred_tables.proofs.Filled.{filled_put, no_more_sealed}
 use Rattle.cred_tables.proofs.Bags.{bag-more}
 use Rattle.cred_tables.proofs.Sealing.{roomy, in_free, in_none, keeps_same, kept_more}
@@ -76,7 +76,7 @@ many_by_test n test is many = grind (arith, nat_tests)
 
 -- ---- it is created
 
-module _ {parts : Parts} {store : List (Option Credential)} {t : Table} (is : IsKept parts store t) (after : Table) (task process : ℕ) where
+module _ {parts : StateLists} {store : List (Option Credential)} {t : Table} (is : IsKept parts store t) (after : Table) (task process : ℕ) where
   abbrev s : State
   s = state_of parts store t
 
@@ -127,7 +127,7 @@ module _ {parts : Parts} {store : List (Option Credential)} {t : Table} (is : Is
 
 -- What is kept stays so where a task shares its creator's current credential, whatever broadcasts
 -- are open then.
-pub kept_child : {parts : Parts} {store : List (Option Credential)} {t r later : Table} {n m k : ℕ} → IsKept parts store t
+pub kept_child : {parts : StateLists} {store : List (Option Credential)} {t r later : Table} {n m k : ℕ} → IsKept parts store t
     → (tasks : List Task) (child process : ℕ) (owner : Task) → tasks ≡ parts.tasks ++ first_task child process owner.current ∷ [] → n ≡ owner.current
     → r ≡ record t { spare = m } → IsSameBag later.held (n ∷ r.held) → later ≡ record r { held = later.held; spare = k }
     → 0 < count_by (λ i. i == n) t.held → (broadcasts : List Broadcast) → IsKept (record parts { tasks = tasks; broadcasts = broadcasts }) store later

@@ -13,9 +13,9 @@ use Rattle.cred_names.specs.Labels.{event_labels}
 use Rattle.cred_sound.specs.Sound.{IsSound}
 use Rattle.cred_hold.specs.Tokens.{Loan, IsAlone}
 use Rattle.cred_slots.specs.Table.{Table}
-use Rattle.cred_tables.specs.Kept.{Parts, state_of, IsKept}
+use Rattle.cred_tables.specs.Kept.{StateLists, state_of, IsKept}
 use Rattle.cred_tables.specs.Out.{AreHome, AreOut, ArePut}
-use Rattle.cred_tables.proofs.Outs.{kept_alone}
+use Rattle.cred_tables.proofs.TokensOfLabels.{kept_alone}
 use Rattle.cred_tables.proofs.Puts.{was_put}
 use Rattle.cred_state.specs.TokensOut.{IsHome}
 
@@ -25,7 +25,7 @@ home_is event label out home named =
     All-weaker (λ (e : Loan). Contains (event_labels event) e.label → ⊥) (λ e. e.label ≢ label)
     (λ e away same. away (subst (λ n. Contains (event_labels event) n) (sym same) named)) out home
 
-module _ {parts : Parts} {store : List (Option Credential)} {t : Table} (out : List Loan) (inv : IsKept parts store t × ArePut parts.prepared out store) where
+module _ {parts : StateLists} {store : List (Option Credential)} {t : Table} (out : List Loan) (inv : IsKept parts store t × ArePut parts.prepared out store) where
   abbrev s : State
   s = state_of parts store t
 

@@ -23,7 +23,7 @@ use Rattle.cred_slots.specs.Table.{Table, IsSameBag, is_kept_in, references_to}
 use Rattle.cred_state.specs.Refusals.{MayPrepare}
 use Rattle.cred_slots.specs.Table as table
 use Rattle.cred_slots.proofs.Tables.{held_is_referred}
-use Rattle.cred_tables.specs.Kept.{Parts, state_of, IsCounted, IsKept}
+use Rattle.cred_tables.specs.Kept.{StateLists, state_of, IsCounted, IsKept}
 use Rattle.cred_tables.proofs.Bags.{bag-more, bag-less, bag-has, bag-at}
 use Rattle.cred_tables.proofs.Cleared.{filled_spare, free_clear}
 use Rattle.cred_tables.proofs.Filled.{filled_same, no_more_counted, no_more_dropped, no_more_roomy}
@@ -120,7 +120,7 @@ unfolding prepare_does
 prepare_tests s label task hold number may =
     rw (may.lives, may.idle, may.has, may.new, may.unprepared, few_prepared (length s.prepared) may.few) refl
 
-module _ {parts : Parts} {store : List (Option Credential)} {t : Table} (is : IsKept parts store t) where
+module _ {parts : StateLists} {store : List (Option Credential)} {t : Table} (is : IsKept parts store t) where
   abbrev s : State
   s = state_of parts store t
 
@@ -131,7 +131,7 @@ module _ {parts : Parts} {store : List (Option Credential)} {t : Table} (is : Is
       prepare_tests s label task hold number may ∙ in_none is (prepare_does label task may.base.number) after none makes
 
   module _ (after : Table) (p : Prepared) (claim : Claims t after p.base p.slot) where
-    abbrev begun : Parts
+    abbrev begun : StateLists
     begun = record parts { prepared = parts.prepared ++ p ∷ [] }
 
     -- whatever is in the words of its slot
@@ -212,7 +212,7 @@ module _ {parts : Parts} {store : List (Option Credential)} {t : Table} (is : Is
 
     module _ (after : Table) (held : IsSameBag t.held (p.base ∷ after.held)) (sealed : after.sealed ≡ t.sealed)
         (deferred : after.deferred ≡ t.deferred ++ p.base ∷ []) where
-      abbrev left : Parts
+      abbrev left : StateLists
       left = record parts { prepared = remove parts.prepared place }
 
       pub abort_kept : AllPairs (λ a b. a ≢ b) (kept s) → after.kept ≡ slice_set t.kept p.slot false → IsKept left store after

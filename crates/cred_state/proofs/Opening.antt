@@ -6,12 +6,12 @@ use Rattle.cred_model.specs.State.{State, OpenFile}
 use Rattle.cred_model.specs.FileEvents.{by_close}
 use Rattle.cred_model.specs.Step.{outcome}
 use Rattle.cred_slots.specs.Table.{Table}
-use Rattle.cred_tables.specs.Kept.{Parts, state_of, IsKept}
+use Rattle.cred_tables.specs.Kept.{StateLists, state_of, IsKept}
 use Rattle.cred_tables.proofs.Bags.{bag-has, bag-at}
 use Rattle.cred_tables.proofs.Sealing.{Drops, keeps_same, kept_less, over_later}
 use Rattle.cred_tables.proofs.InUse.{in_use-closed}
 
-module _ {parts : Parts} {store : List (Option Credential)} {t : Table} (is : IsKept parts store t) where
+module _ {parts : StateLists} {store : List (Option Credential)} {t : Table} (is : IsKept parts store t) where
   abbrev s : State
   s = state_of parts store t
 
@@ -20,7 +20,7 @@ module _ {parts : Parts} {store : List (Option Credential)} {t : Table} (is : Is
   opener-held place f there = bag-at f.opener is.counted.counts (bag-has (in_use-closed s place f there))
 
   module _ (after : Table) (place : ℕ) (f : OpenFile) (there : slice_get parts.files place ≡ Some f) (less : Drops t after f.opener) where
-    abbrev left : Parts
+    abbrev left : StateLists
     left = record parts { files = remove parts.files place }
 
     pub close_kept : IsKept left store after

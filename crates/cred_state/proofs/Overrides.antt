@@ -18,9 +18,9 @@ use Rattle.cred_model.proofs.Numbers.{owner_number}
 use Rattle.cred_slots.specs.Table.{Table, IsSameBag, references_to}
 use Rattle.cred_procs.specs.Tasks.{task_in, overrides_of}
 use Rattle.cred_tables.specs.Prepared.{changed_of}
-use Rattle.cred_tables.specs.Kept.{Parts, creds_in, state_of, IsKept, SealsKept}
+use Rattle.cred_tables.specs.Kept.{StateLists, creds_in, state_of, IsKept, SealsKept}
 use Rattle.cred_slots.proofs.Counting.{count-cons}
-use Rattle.cred_tables.proofs.Back.{set_same}
+use Rattle.cred_tables.proofs.Returned.{set_same}
 use Rattle.cred_tables.proofs.Bags.{one_if, bag-has, bag-at}
 use Rattle.cred_model.proofs.Places.{find-at, place-of_found}
 use Rattle.cred_tables.proofs.Sealing.{Drops, keeps_same, kept_less, kept_more, over_later}
@@ -205,7 +205,7 @@ unprepared s task label owner lives none test is fails = by_place (position (λ 
 
 -- ---- the state
 
-module _ {parts : Parts} {store : List (Option Credential)} {t : Table} (is : IsKept parts store t) where
+module _ {parts : StateLists} {store : List (Option Credential)} {t : Table} (is : IsKept parts store t) where
   abbrev s : State
   s = state_of parts store t
 
@@ -242,7 +242,7 @@ module _ {parts : Parts} {store : List (Option Credential)} {t : Table} (is : Is
       same_number : next ≡ number
       same_number = count ∙ sym seals.counted
 
-      abbrev end : Parts
+      abbrev end : StateLists
       end = record parts { tasks = tasks; prepared = remove parts.prepared place }
 
       abbrev put : List (Option Credential)

@@ -25,7 +25,7 @@ use Rattle.cred_model.proofs.Likes.{does_same}
 use Rattle.cred_decide.specs.Refusals.{IsDenied}
 use Rattle.cred_slots.specs.Table.{Table}
 use Rattle.cred_slots.specs.Table as table
-use Rattle.cred_tables.specs.Kept.{Parts, state_of, IsKept, Seals}
+use Rattle.cred_tables.specs.Kept.{StateLists, state_of, IsKept, Seals}
 use Rattle.cred_tables.proofs.InUse.{Differ}
 use Rattle.cred_tables.proofs.Owners.{own_none}
 use Rattle.cred_tables.proofs.Sealing.{roomy, in_free, in_none, Drops}
@@ -84,7 +84,7 @@ module _ (s : State) (task : ℕ) (call : IdCall) where
         → outcome s (by_raw s task call) ≡ (Overridden depth, s)
     raw_overridden idle depth over = rw (lives, own_there, idle, over) refl
 
-module _ {parts : Parts} {store : List (Option Credential)} {t : Table} (is : IsKept parts store t)
+module _ {parts : StateLists} {store : List (Option Credential)} {t : Table} (is : IsKept parts store t)
     (after : Table) (task : ℕ) (old : Numbered) (new : Credential)
     (has : current_of (state_of parts store t) task ≡ Some old) (call : IdCall)
     (may : MayCallAlone (state_of parts store t) task old) (rule : set_id old.cred call ≡ Ok new)

@@ -13,8 +13,8 @@ use Rattle.cred_model.proofs.Numbers.{numbered_is}
 use Rattle.cred_hold.specs.Tokens.{IsSealed}
 use Rattle.cred_slots.specs.Table.{Table, free_in, references_to, is_sealed_in}
 use Rattle.cred_slots.proofs.Counting.{count-append}
-use Rattle.cred_tables.specs.Kept.{Parts, stored_at, creds_in, cred_under, seen_in, state_of, AreInPlace, IsInUse, IsKept, Seals}
-use Rattle.cred_tables.specs.declared.table.Numbered as table
+use Rattle.cred_tables.specs.Kept.{StateLists, stored_at, creds_in, cred_under, seen_in, state_of, AreInPlace, IsInUse, IsKept, Seals}
+use Rattle.cred_tables.specs.declared.table.NumberedSlot as table
 use Rattle.cred_tables.proofs.Sealing.{used_is_referred}
 
 -- what is found by the number of something that refers
@@ -53,7 +53,7 @@ filled_is (None ∷ places) zero is = absurd (cc)
 filled_is (Some c ∷ places) zero is = refl
 filled_is (p ∷ places) (suc slot) is = filled_is places slot is
 
-module _ {parts : Parts} {places : List (Option Credential)} {t : Table} (is : IsKept parts places t) where
+module _ {parts : StateLists} {places : List (Option Credential)} {t : Table} (is : IsKept parts places t) where
   abbrev s : State
   s = state_of parts places t
 
@@ -63,7 +63,7 @@ module _ {parts : Parts} {places : List (Option Credential)} {t : Table} (is : I
       filled_is places x.slot (is.filled.each n x.slot (at_slot places t.sealed n x at) referred)
       ∙ ap (λ (c : Credential). Some (Some c)) (sym (at_place places t.sealed n x at))
 
-  module _ (found : table.Numbered) (there : numbered s.creds found.number ≡ Some (seen_in s.creds found)) (used : IsInUse s found.number) where
+  module _ (found : table.NumberedSlot) (there : numbered s.creds found.number ≡ Some (seen_in s.creds found)) (used : IsInUse s found.number) where
     pub found-place : slice_get places found.slot ≡ Some (Some (cred_under s.creds found.number))
     found-place = in_place found.number _ (used_is_referred is found.number used) (numbered_is s.creds found.number _ there).1
 
@@ -83,7 +83,7 @@ module _ {parts : Parts} {places : List (Option Credential)} {t : Table} (is : I
       in_place n x (omega (arith, some, all, held, each)) at
 
 -- what is read is what is seen under the number
-pub found-there : (places : List (Option Credential)) (sealed : List ℕ) (found : table.Numbered)
+pub found-there : (places : List (Option Credential)) (sealed : List ℕ) (found : table.NumberedSlot)
     → numbered (creds_in places sealed) found.number ≡ Some (seen_in (creds_in places sealed) found)
     → (c : Credential) → slice_get places found.slot ≡ Some (Some c) → c ≡ cred_under (creds_in places sealed) found.number
 found-there places sealed found is c there =

@@ -6,18 +6,18 @@ use Rattle.cred_model.proofs.Numbers.{current_is}
 use Rattle.cred_hold.specs.Tokens.{Mastered, IsAlone, IsSealed}
 use Rattle.cred_procs.specs.Tasks.{task_in}
 use Rattle.cred_slots.specs.Table.{Table, free_in}
-use Rattle.cred_tables.specs.Kept.{Parts, cred_under, creds_in, seen_in, state_of, IsInUse, IsKept, Seals}
+use Rattle.cred_tables.specs.Kept.{StateLists, cred_under, creds_in, seen_in, state_of, IsInUse, IsKept, Seals}
 use Rattle.cred_tables.specs.Out.{AreOut}
-use Rattle.cred_tables.specs.declared.table.Numbered.{Numbered}
+use Rattle.cred_tables.specs.declared.table.NumberedSlot.{NumberedSlot}
 use Rattle.cred_tables.proofs.Bags.{bag-keeps}
-use Rattle.cred_tables.proofs.Outs.{free_alone}
+use Rattle.cred_tables.proofs.TokensOfLabels.{free_alone}
 use Rattle.cred_tables.proofs.Sealing.{current-held, drops, Drops}
 use Rattle.cred_state.specs.Replacements.{IsReplaced, MayReplace}
 use Rattle.cred_state.proofs.Reading.{found-place, found-sealed, found-slot, is_found, stands_apart}
 use Rattle.cred_state.proofs.Reserved.{kept_spare}
 use Rattle.cred_state.proofs.Standing.{current-in_use}
 
-module _ {tasks : List Task} {slots : Table} {master : Mastered} {task slot : ℕ} {now : Numbered} (may : MayReplace tasks slots master task slot now) where
+module _ {tasks : List Task} {slots : Table} {master : Mastered} {task slot : ℕ} {now : NumberedSlot} (may : MayReplace tasks slots master task slot now) where
   abbrev s : State
   s = state_of (record may.beside { tasks = tasks }) master.slots slots
 
@@ -52,7 +52,7 @@ module _ {tasks : List Task} {slots : Table} {master : Mastered} {task slot : �
     apart = stands_apart seals now.number now.slot (found-slot may.kept now there used) held
 
 -- once room is reserved
-pub may_replace : {parts : Parts} {master : Mastered} {t r : Table} {slot : ℕ} → IsKept parts master.slots t → (task : ℕ) (now : Numbered)
+pub may_replace : {parts : StateLists} {master : Mastered} {t r : Table} {slot : ℕ} → IsKept parts master.slots t → (task : ℕ) (now : NumberedSlot)
     → current_of (state_of parts master.slots t) task ≡ Some (seen_in (creds_in master.slots t.sealed) now)
     → AreOut (state_of parts master.slots t) master.loans → r ≡ record t { spare = max t.spare 1 } → Some slot ≡ free_in r
     → MayReplace parts.tasks r master task slot now

@@ -2,10 +2,10 @@
 use Rattle.std.proofs.Common.{◌≡◌, ℕ, List, Option, refl, sym, subst}
 use Rattle.cred_record.specs.Credential.{Credential}
 use Rattle.cred_slots.specs.Table.{Table, swept_table}
-use Rattle.cred_tables.specs.Kept.{Parts, IsKept}
+use Rattle.cred_tables.specs.Kept.{StateLists, IsKept}
 use Rattle.cred_tables.proofs.Filled.{filled_same, no_more_swept}
 
-pub kept_spare : {parts : Parts} {store : List (Option Credential)} {t r : Table} {m : ℕ} → IsKept parts store t → r ≡ record t { spare = m }
+pub kept_spare : {parts : StateLists} {store : List (Option Credential)} {t r : Table} {m : ℕ} → IsKept parts store t → r ≡ record t { spare = m }
     → IsKept parts store r
 kept_spare {parts = parts} {store = store} is made =
     subst (λ (x : Table). IsKept parts store x) (sym made)
@@ -14,7 +14,7 @@ kept_spare {parts = parts} {store = store} is made =
       filled = record { each = is.filled.each };
     })
 
-pub kept_swept : {parts : Parts} {store : List (Option Credential)} {t r : Table} → IsKept parts store t → r ≡ swept_table t → IsKept parts store r
+pub kept_swept : {parts : StateLists} {store : List (Option Credential)} {t r : Table} → IsKept parts store t → r ≡ swept_table t → IsKept parts store r
 kept_swept {parts = parts} {store = store} {t = t} is made =
     subst (λ (x : Table). IsKept parts store x) (sym made)
     (record {

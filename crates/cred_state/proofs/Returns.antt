@@ -23,13 +23,13 @@ use Rattle.cred_words.specs.Lists.{Has, IsTaken}
 use Rattle.cred_hold.specs.Tokens.{Loan, loan, IsAlone}
 use Rattle.atomic_table.specs.Seated.{TableId}
 use Rattle.cred_work.specs.Decisions.{AreOf, work_event}
-use Rattle.cred_work.specs.declared.lent.Lent.{Lent}
-use Rattle.cred_work.specs.declared.lent.Lent.TheVariants.{Asking, Opening, Signalling, Altering}
+use Rattle.cred_work.specs.declared.pending.Pending.{Pending}
+use Rattle.cred_work.specs.declared.pending.Pending.TheVariants.{Asking, Opening, Signalling, Altering}
 use Rattle.cred_slots.specs.Table.{Table}
-use Rattle.cred_tables.specs.Kept.{Parts, state_of, IsKept}
+use Rattle.cred_tables.specs.Kept.{StateLists, state_of, IsKept}
 use Rattle.cred_tables.specs.Out.{AreHome, AreOut, ArePut}
-use Rattle.cred_tables.proofs.Back.{has_taken, taken_has, back_new, back_newer}
-use Rattle.cred_tables.proofs.Outs.{IsHeld, IsPrepared, base_out, hold_apart, hold_out, kept_alone_by, kept_spare, kept_none, out_has, token_is}
+use Rattle.cred_tables.proofs.Returned.{has_taken, taken_has, back_new, back_newer}
+use Rattle.cred_tables.proofs.TokensOfLabels.{IsHeld, IsPrepared, base_out, hold_apart, hold_out, kept_alone_by, kept_spare, kept_none, out_has, token_is}
 use Rattle.cred_tables.proofs.Puts.{put_back, put_changed, put_held, was_put}
 use Rattle.cred_tables.proofs.Stored.{spare_like}
 use Rattle.cred_state.specs.TokensOut.{HoldsApart, AreTaken, IsBase, earlier_of, loans_of, hold_loan}
@@ -110,7 +110,7 @@ module _ (s : State) (sound : IsSound s) (label : ℕ) (p : Prepared) (prepared 
       lists.All-at (λ (x : Prepared). All (λ (y : Prepared). y.label ≡ x.label → y ≡ x) s.prepared) s.prepared at.0 p at.2
       (alone (λ (r : Prepared). r.label) s.prepared sound.prepared)
 
-module _ {parts : Parts} {store : List (Option Credential)} {t : Table} {out : List Loan} (inv : IsKept parts store t × ArePut parts.prepared out store)
+module _ {parts : StateLists} {store : List (Option Credential)} {t : Table} {out : List Loan} (inv : IsKept parts store t × ArePut parts.prepared out store)
     (sound : IsSound (state_of parts store t)) (are : AreOut (state_of parts store t) out)
     (label slot : ℕ) (new : List Loan) (taken : IsTaken out (loan label slot None) new) where
   abbrev s : State
@@ -133,7 +133,7 @@ module _ {parts : Parts} {store : List (Option Credential)} {t : Table} {out : L
     words_kept =
         subst (λ (n : ℕ). IsKept parts (slice_set store n value) t) written.is (kept_spare inv.0 sound label p written.prepared value)
 
-    words_like : {more : Parts} → IsKept more store t → IsLike (state_of more (slice_set store slot value) t) (state_of more store t)
+    words_like : {more : StateLists} → IsKept more store t → IsLike (state_of more (slice_set store slot value) t) (state_of more store t)
     words_like is =
         spare_like store t slot value is
         (λ n at some. kept_none inv.0 sound label p written.prepared n (at ∙ ap Some (sym written.is)) some)
@@ -158,7 +158,7 @@ module _ {parts : Parts} {store : List (Option Credential)} {t : Table} {out : L
     -- ---- a change is made
 
     module _ (to : Changed) (put : value ≡ Some to.cred) where
-      abbrev more : Parts
+      abbrev more : StateLists
       more = record parts { prepared = with_change parts.prepared label to }
 
       is_changed : (q : Prepared) → (q.slot ≡ p.slot → q ≡ p) → (test : Bool) → (q.label == label) ≡ test
@@ -197,7 +197,7 @@ set_within xs ys n x is at =
 -- ---- all that was lent comes back
 
 -- the event names the labels of what is lent for it
-pub named_for : (cells : TableId) (lent : Lent) → AreOf cells lent → All (λ e. Contains (event_labels (work_event lent)) e.label) (loans_of lent)
+pub named_for : (cells : TableId) (lent : Pending) → AreOf cells lent → All (λ e. Contains (event_labels (work_event lent)) e.label) (loans_of lent)
 named_for cells (Asking hold query told) of =
     let P : Loan → Type 0 = λ e. Contains (hold.label ∷ []) e.label in
     All-cons P (hold_loan hold) [] (Contains-push [] hold.label) (All-nil P)
@@ -224,7 +224,7 @@ pair_back event y x out mid later new home own first second rest =
     let one = back_newer y x out mid first (fresh event out y home (All-head Named y (x ∷ []) own)) in
     rest ∙ back_new x out later (subst (λ es. IsTaken es x later) one second) (fresh event out x home (All-head Named x [] (All-tail Named y (x ∷ []) own)))
 
-pub all_back : (cells : TableId) (lent : Lent) (out new : List Loan) → AreOf cells lent → AreHome (work_event lent) out
+pub all_back : (cells : TableId) (lent : Pending) (out new : List Loan) → AreOf cells lent → AreHome (work_event lent) out
     → AreTaken (loans_of lent) (loans_of lent ++ out) new → new ≡ out
 all_back cells lent out new of home taken = by lent (named_for cells lent of) home taken
   where
@@ -238,7 +238,7 @@ all_back cells lent out new of home taken = by lent (named_for cells lent of) ho
         → AreTaken (y ∷ x ∷ []) (y ∷ x ∷ out) new → new ≡ out
     two event y x home own (mid, first, (later, second, rest)) = pair_back event y x out mid later new home own first second rest
 
-    by : (lent : Lent) → All (λ e. Contains (event_labels (work_event lent)) e.label) (loans_of lent) → AreHome (work_event lent) out
+    by : (lent : Pending) → All (λ e. Contains (event_labels (work_event lent)) e.label) (loans_of lent) → AreHome (work_event lent) out
         → AreTaken (loans_of lent) (loans_of lent ++ out) new → new ≡ out
     by (Asking hold query told) own home taken = one (work_event (Asking hold query told)) (hold_loan hold) home own taken
     by (Opening hold file want fd may) own home taken = one (work_event (Opening hold file want fd may)) (hold_loan hold) home own taken

@@ -16,7 +16,7 @@ use Rattle.cred_model.proofs.Lists.{find-remove_other, find_changed, found, slic
 use Rattle.cred_model.proofs.Numbers.{numbered_stays}
 use Rattle.cred_model.proofs.Referred.{EachRef, each_ref}
 use Rattle.cred_names.specs.Labels.{event_labels}
-use Rattle.cred_sound.specs.Ledger.{SealsOf}
+use Rattle.cred_sound.specs.SlotUse.{SealsOf}
 use Rattle.cred_sound.proofs.Parts.{Stays, Adds, Removes, SamePrepared, Prepares, Alters, Ends, SameCreds, Seals, HoldsChange, PreparedChange, CredsChange}
 use Rattle.cred_sound.proofs.Parts.{Changes, sealed_cred}
 use Rattle.cred_sound.proofs.Events.{changes}
@@ -24,7 +24,7 @@ use Rattle.cred_sound.specs.Sound.{IsSound}
 use Rattle.cred_words.specs.Lists.{Has}
 use Rattle.cred_hold.specs.Tokens.{Loan, loan}
 use Rattle.cred_tables.specs.Out.{AreHome, AreOut, hold_token, kept_tokens, tokens_in, needs_tokens}
-use Rattle.cred_tables.proofs.Outs.{IsToken, IsHeld, IsPrepared, token_is, hold_token_is, kept_tokens_are, has_first, has_last}
+use Rattle.cred_tables.proofs.TokensOfLabels.{IsToken, IsHeld, IsPrepared, token_is, hold_token_is, kept_tokens_are, has_first, has_last}
 
 -- the event drops what the label has
 pub data EndsLabel (event : Event) (label : ℕ) : Type 0 where

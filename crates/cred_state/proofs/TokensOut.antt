@@ -9,11 +9,11 @@ use Rattle.cred_model.proofs.Likes.{like_self}
 use Rattle.cred_sound.specs.Sound.{IsSound}
 use Rattle.cred_hold.specs.Tokens.{Loan, Held, Written, loan}
 use Rattle.cred_work.specs.Decisions.{AreOf, undecided, work_event}
-use Rattle.cred_work.specs.declared.lent.Lent.{Lent}
-use Rattle.cred_work.specs.declared.lent.Lent.TheVariants.{Asking, Opening, Signalling, Altering}
+use Rattle.cred_work.specs.declared.pending.Pending.{Pending}
+use Rattle.cred_work.specs.declared.pending.Pending.TheVariants.{Asking, Opening, Signalling, Altering}
 use Rattle.cred_tables.specs.Kept.{Standing}
 use Rattle.cred_tables.specs.Out.{cleared, tokens_in}
-use Rattle.cred_tables.proofs.Outs.{cleared_like}
+use Rattle.cred_tables.proofs.TokensOfLabels.{cleared_like}
 use Rattle.cred_state.specs.TokensOut.{IsChain, loans_of, hold_loan, with_lent}
 use Rattle.cred_model.specs.Script.{Script}
 use Rattle.atomic_table.specs.Seated.{TableId}
@@ -61,7 +61,7 @@ kept_by s base writer is = by (prepared_of s base.label) refl is
     by (Some p) at is = sealed p at (numbered s.creds p.base) is
 
 -- while it is lent, the state is like the one before
-pub like_lent : (before : Standing) (lent : Lent) → IsSound before.state → loans_of lent ≡ tokens_in before.state (work_event lent)
+pub like_lent : (before : Standing) (lent : Pending) → IsSound before.state → loans_of lent ≡ tokens_in before.state (work_event lent)
     → IsLike (with_lent before lent).state before.state
 like_lent before (Asking hold query told) sound is = like_self before.state
 like_lent before (Opening hold file want fd may) sound is = like_self before.state
@@ -72,35 +72,35 @@ like_lent before (Altering base writer change made) sound is =
     (cleared_like before.state sound by.label by.preparation by.prepared)
 
 -- a decision leaves the loans
-pub loans_bare : (lent : Lent) → loans_of (undecided lent) ≡ loans_of lent
+pub loans_bare : (lent : Pending) → loans_of (undecided lent) ≡ loans_of lent
 loans_bare (Asking hold query told) = refl
 loans_bare (Opening hold file want fd may) = refl
 loans_bare (Signalling from hold to target may) = refl
 loans_bare (Altering base writer change made) = refl
 
 -- and the event
-pub event_bare : (lent : Lent) → work_event (undecided lent) ≡ work_event lent
+pub event_bare : (lent : Pending) → work_event (undecided lent) ≡ work_event lent
 event_bare (Asking hold query told) = refl
 event_bare (Opening hold file want fd may) = refl
 event_bare (Signalling from hold to target may) = refl
 event_bare (Altering base writer change made) = refl
 
 -- and what the tokens are of
-pub of_bare : (cells : TableId) (lent : Lent) → AreOf cells (undecided lent) ≡ AreOf cells lent
+pub of_bare : (cells : TableId) (lent : Pending) → AreOf cells (undecided lent) ≡ AreOf cells lent
 of_bare cells (Asking hold query told) = refl
 of_bare cells (Opening hold file want fd may) = refl
 of_bare cells (Signalling from hold to target may) = refl
 of_bare cells (Altering base writer change made) = refl
 
 -- and the root ids
-pub chain_bare : (script : Script) (chain : List ℕ) (lent : Lent) → IsChain script (undecided lent) chain ≡ IsChain script lent chain
+pub chain_bare : (script : Script) (chain : List ℕ) (lent : Pending) → IsChain script (undecided lent) chain ≡ IsChain script lent chain
 chain_bare script chain (Asking hold query told) = refl
 chain_bare script chain (Opening hold file want fd may) = refl
 chain_bare script chain (Signalling from hold to target may) = refl
 chain_bare script chain (Altering base writer change made) = refl
 
 -- two that are the same but for the decision
-module _ (old new : Lent) (stays : undecided new ≡ undecided old) where
+module _ (old new : Pending) (stays : undecided new ≡ undecided old) where
   pub loans_stay : loans_of new ≡ loans_of old
   loans_stay = sym (loans_bare new) ∙ ap loans_of stays ∙ loans_bare old
 

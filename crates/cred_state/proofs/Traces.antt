@@ -8,9 +8,9 @@ use Rattle.cred_event.specs.declared.answer.Answer.{Answer}
 use Rattle.cred_event.specs.declared.answer.Answer.TheVariants.{Done, Einval, Eperm, NoHold, NoTask, Told}
 use Rattle.cred_event.specs.declared.answer.Told.TheVariants as told
 use Rattle.cred_event.specs.declared.event.Change.{Change}
-use Rattle.cred_event.specs.declared.event.Mode.{Mode}
+use Rattle.cred_record.specs.declared.mode.PtraceMode.{PtraceMode}
 use Rattle.cred_model.specs.Dumpable.{differs, differs_by, flag_of_value, flags_by, flags_committed, is_dumpable, set_flag}
-use Rattle.cred_model.specs.Ptrace.{may_trace}
+use Rattle.cred_rules.specs.Ptrace.{may_trace}
 use Rattle.cred_model.specs.Script.{Script, reaches}
 use Rattle.cred_model.specs.State.{State, Task, Changed, Numbered, ProcessFlag, current_of, held_by, numbered, task_of}
 use Rattle.cred_model.specs.TaskEvents.{by_dumpable, by_dumped, by_ptrace}
@@ -141,7 +141,7 @@ module _ (s : State) (task : ℕ) where
 
 -- ---- a look into another task
 
-module _ (script : Script) (s : State) (from hold to target : ℕ) (mode : Mode) where
+module _ (script : Script) (s : State) (from hold to target : ℕ) (mode : PtraceMode) where
   pub trace_no_sender : None ≡ option_map (λ t. t.process) (task_of s from)
       → outcome s (by_ptrace script s from hold to target mode) ≡ (NoTask from, s)
   trace_no_sender none = rw (no_process (task_of s from) none) refl

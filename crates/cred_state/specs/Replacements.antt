@@ -5,11 +5,11 @@ use Rattle.cred_setid.specs.Parts.{changed}
 use Rattle.cred_model.specs.State.{Task, current_of}
 use Rattle.cred_hold.specs.Tokens.{Mastered}
 use Rattle.cred_slots.specs.Table.{Table, IsSameBag, free_in}
-use Rattle.cred_tables.specs.Kept.{Parts, creds_in, seen_in, state_of, IsKept, Seals}
+use Rattle.cred_tables.specs.Kept.{StateLists, creds_in, seen_in, state_of, IsKept, Seals}
 use Rattle.cred_tables.specs.Out.{AreOut}
-use Rattle.cred_tables.specs.declared.table.Numbered.{Numbered}
-use Rattle.cred_state.specs.declared.state.acts.Replacement.{Replacement}
-use Rattle.cred_state.specs.declared.state.acts.Replacement.TheVariants.{Changed, Words}
+use Rattle.cred_tables.specs.declared.table.NumberedSlot.{NumberedSlot}
+use Rattle.cred_state.specs.declared.state.call_events.acts.Replacement.{Replacement}
+use Rattle.cred_state.specs.declared.state.call_events.acts.Replacement.TheVariants.{Changed, Words}
 
 -- the credential by which a thread's own is replaced
 abbrev pub replacement : Credential → Replacement → Credential
@@ -25,8 +25,8 @@ HasValidSets c (Words made) = ⊤
 -- there is room for one more reference, and the tables are kept, with what else refers to
 -- credentials.
 pub record MayReplace (tasks : List Task) (slots : Table) (master : Mastered) (task slot : ℕ)
-    (now : Numbered) : Type 0 where
-  pub beside : Parts
+    (now : NumberedSlot) : Type 0 where
+  pub beside : StateLists
   pub kept : IsKept (record beside { tasks = tasks }) master.slots slots
   pub has :
       current_of (state_of (record beside { tasks = tasks }) master.slots slots) task

@@ -19,8 +19,9 @@ use Rattle.cred_model.specs.State.{State, Prepared, Numbered, numbered, prepared
 use Rattle.cred_model.specs.State.{info_of, open_of}
 use Rattle.cred_words.specs.Lists.{IsTaken}
 use Rattle.cred_hold.specs.Tokens.{Loan, Held, Written, loan}
-use Rattle.cred_work.specs.declared.lent.Lent.{Lent}
-use Rattle.cred_work.specs.declared.lent.Lent.TheVariants.{Asking, Opening, Signalling, Altering}
+use Rattle.cred_work.specs.declared.pending.Pending.{Pending}
+use Rattle.cred_work.specs.declared.pending.Pending.TheVariants.{Asking, Opening, Signalling}
+use Rattle.cred_work.specs.declared.pending.Pending.TheVariants.{Altering}
 use Rattle.cred_tables.specs.Kept.{Standing, creds_in}
 use Rattle.cred_tables.specs.Out.{ArePut, cleared}
 
@@ -30,7 +31,7 @@ hold_loan hold = loan hold.label hold.slot (Some hold.cred)
 
 -- The loans of tokens that are out, the newest first. A writer's is that of none, whatever it
 -- has put.
-abbrev pub loans_of : Lent → List Loan
+abbrev pub loans_of : Pending → List Loan
 loans_of (Asking hold query told) = hold_loan hold ∷ []
 loans_of (Opening hold file want fd may) = hold_loan hold ∷ []
 loans_of (Signalling from hold to target may) = hold_loan target ∷ hold_loan hold ∷ []
@@ -53,7 +54,7 @@ with_kept before base writer = record {
 }
 
 -- the state of which these tokens are lent
-abbrev pub with_lent : Standing → Lent → Standing
+abbrev pub with_lent : Standing → Pending → Standing
 with_lent before (Altering base writer change made) = with_kept before base writer
 with_lent before lent =
     record before { words = record before.words { out = loans_of lent ++ before.words.out } }
@@ -64,7 +65,7 @@ IsChainOf script (Exec file) ns chain = chain ≡ chain_of script ns
 IsChainOf script change ns chain = ⊤
 
 -- the root ids are those that the event is decided by: of the base's user namespace
-abbrev pub IsChain : Script → Lent → List ℕ → Type 0
+abbrev pub IsChain : Script → Pending → List ℕ → Type 0
 IsChain script (Altering base writer change made) chain =
     IsChainOf script change base.cred.ns chain
 IsChain script lent chain = ⊤
@@ -115,9 +116,9 @@ HoldsApart slots out = All (λ e. IsSome e.held → All (λ slot. e.slot ≢ slo
 -- a change made this of the base, as its file stands and as the script has its root ids
 abbrev pub IsMadeOf :
     Script → List File → List ℕ → Credential → Change → Result Made Answer → Type 0
-IsMadeOf script infos chain base change made =
+IsMadeOf script inodes chain base change made =
     IsChainOf script change base.ns chain
-    × (made ≡ by_change (info_of infos (change_files change)) chain base change)
+    × (made ≡ by_change (info_of inodes (change_files change)) chain base change)
 
 -- what a change made was put
 abbrev pub IsMadePut : Written → Result Made Answer → Type 0
@@ -153,7 +154,7 @@ CanOpen s label fd may = (opener : ℕ) × MayOpen s label fd opener may
 
 -- why what was lent for an event stays lent: nothing was decided for it, or it opens a file, which
 -- takes memory and which nothing refuses
-abbrev pub StaysLent : State → Lent → Type 0
+abbrev pub StaysLent : State → Pending → Type 0
 StaysLent s (Asking hold query told) = told ≡ None
 StaysLent s (Opening hold file want fd may) = IfSome may (CanOpen s hold.label fd)
 StaysLent s (Signalling from hold to target may) = may ≡ None

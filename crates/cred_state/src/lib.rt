@@ -1,8 +1,7 @@
 //! The state of a run, and a call for each event: `State::begin`, `State::commit` and the others.
 //!
 //! The tasks, the open broadcasts, the open files, the holds and the prepared labels are in a table
-//! each, and the credentials in 256 places, with a table of slots that counts the references to
-//! them.
+//! each, and the credentials in slots, with a table of those that counts the references to them.
 #![tactic(auto)]
 
 pub mod state;

@@ -15,35 +15,27 @@ ghost use Rattle.cred_sound.specs.Sound.{IsSound};
 ghost use Rattle.cred_tables.specs.Kept.{cred_under, seen_in, AreInPlace, IsInUse};
 ghost use Rattle.cred_tables.specs.Out.{AreHome, AreOut};
 
-mod acts;
-mod broadcasts;
-mod decides;
+mod call_events;
 mod enters;
-mod file_calls;
-mod files;
-mod holds;
+mod file_events;
+mod label_events;
 mod lends;
-mod overrides;
-mod prepare;
-mod raw;
 mod replaces;
 mod returns;
-mod tasks;
-mod traces;
+mod task_events;
 
-use cred_attr::FileTable;
-use cred_cast::Casts;
-use cred_declared::{declared_files, root_of};
+use cred_broadcasts::Broadcasts;
+use cred_declared::{FileTable, declared_files, root_of};
+use cred_dumpable::DumpableFlags;
 use cred_event::{Answer, Event, Side};
 use cred_files::Files;
 use cred_hold::{Cells, Master, make};
 use cred_ids::NoMemory;
 use cred_procs::Procs;
-use cred_ptrace::Dump;
 use cred_record::Cred;
 use cred_script::Script;
 use cred_slots::Slots;
-use cred_tables::{Holds, Numbered, Preparing, sealed_at};
+use cred_tables::{Holds, NumberedSlot, Preparing, sealed_at};
 use std::alloc::Global;
 use std::marker::Model;
 
@@ -52,32 +44,32 @@ use std::marker::Model;
 /// that may be a later credential. They see which cells the words are in, and what is lent of them.
 pub struct State {
     tasks: Procs,
-    broadcasts: Casts,
+    broadcasts: Broadcasts,
     files: Files,
     holds: Holds,
     prepared: Preparing,
-    dump: Dump,
-    infos: FileTable,
+    flags: DumpableFlags,
+    inodes: FileTable,
     master: Master,
     slots: Slots,
     alloc: Global,
 }
 
 impl Model for State {
-    ghost use Rattle.cred_tables.specs.Kept.{as_parts, state_of, IsKept, Standing};
+    ghost use Rattle.cred_tables.specs.Kept.{as_lists, state_of, IsKept, Standing};
     ghost use Rattle.cred_tables.specs.Out.{ArePut};
 
     ghost Value = { Standing };
 
     ghost view = { λ s. record {
-      state = state_of (as_parts s.tasks s.broadcasts s.files s.holds s.prepared s.dump s.infos)
+      state = state_of (as_lists s.tasks s.broadcasts s.files s.holds s.prepared s.flags s.inodes)
           s.master.slots s.slots;
       words = record { id = s.master.id; out = s.master.loans };
       places = s.master.slots;
     } };
 
     ghost invariant = { λ s.
-        IsKept (as_parts s.tasks s.broadcasts s.files s.holds s.prepared s.dump s.infos)
+        IsKept (as_lists s.tasks s.broadcasts s.files s.holds s.prepared s.flags s.inodes)
         s.master.slots s.slots
         × ArePut s.prepared s.master.loans s.master.slots };
 }
@@ -92,8 +84,8 @@ impl Drop for State {
             files,
             holds,
             prepared,
-            dump,
-            infos,
+            flags,
+            inodes,
             master,
             slots,
             alloc: _,
@@ -103,8 +95,8 @@ impl Drop for State {
         drop(files);
         drop(holds);
         drop(prepared);
-        drop(dump);
-        drop(infos);
+        drop(flags);
+        drop(inodes);
         drop(master);
         drop(slots);
     }
@@ -135,16 +127,16 @@ impl State {
         ensures out { IfOk result (λ state. state.words.out ≡ master.loans) }
     {
         let slots = Slots::new(alloc)?;
-        let dump = Dump::new(alloc)?;
-        let infos = declared_files(alloc, script)?;
+        let flags = DumpableFlags::new(alloc)?;
+        let inodes = declared_files(alloc, script)?;
         Ok(State {
             tasks: Procs::new(alloc),
-            broadcasts: Casts::new(alloc),
+            broadcasts: Broadcasts::new(alloc),
             files: Files::new(alloc),
             holds: Holds::new(alloc),
             prepared: Preparing::new(alloc),
-            dump,
-            infos,
+            flags,
+            inodes,
             master,
             slots,
             alloc,
@@ -216,26 +208,19 @@ impl State {
         ensures words { self.new.words ≡ self.old.words }
     {
         match event {
-            Event::Ask { label, query } => self.ask(cells, *label, *query),
-            Event::Signal {
-                from,
-                hold,
-                to,
-                target,
-            } => Ok(self.signal(cells, *from, *hold, *to, *target)),
-            Event::Alter { label, change } => self.alter(cells, script, *label, *change),
-            Event::OpenFile {
-                hold,
-                file,
-                want,
-                fd,
-            } => self.open(cells, *hold, *file, *want, *fd),
             Event::Take { label, task, side } => self.take(*label, *task, *side),
+            Event::TakeFile { label, fd } => self.take_file(*label, *fd),
             Event::Release { label } => Ok(self.release(*label)),
+            Event::Ask { label, query } => self.ask(cells, *label, *query),
             Event::Prepare { label, task, hold } => self.prepare(cells, *label, *task, *hold),
+            Event::Alter { label, change } => self.alter(cells, script, *label, *change),
             Event::Commit { label } => self.commit(cells, *label),
+            Event::Abort { label } => Ok(self.abort(*label)),
+            Event::Override { task, label } => self.override_with(*task, *label),
+            Event::Revert { task } => Ok(self.revert(*task)),
             Event::Begin { task, call } => self.begin(cells, line, *task, call),
             Event::Act { broadcast } => self.act(cells, *broadcast),
+            Event::Raw { task, call } => self.raw(cells, *task, call),
             Event::Init {
                 task,
                 process,
@@ -253,14 +238,12 @@ impl State {
                 process,
             } => self.fork(*task, *child, *process),
             Event::Exit { task } => self.exit(*task),
-            Event::TakeFile { label, fd } => self.take_file(*label, *fd),
-            Event::Abort { label } => Ok(self.abort(*label)),
-            Event::Override { task, label } => self.override_with(*task, *label),
-            Event::Revert { task } => Ok(self.revert(*task)),
-            Event::CloseFile { fd } => Ok(self.close_file(*fd)),
-            Event::Sweep => Ok(self.sweep()),
-            Event::Dumpable { task, value } => Ok(self.set_dumpable(*task, *value)),
-            Event::Dumped { task } => Ok(self.dumped(*task)),
+            Event::Signal {
+                from,
+                hold,
+                to,
+                target,
+            } => Ok(self.signal(cells, *from, *hold, *to, *target)),
             Event::Ptrace {
                 from,
                 hold,
@@ -268,6 +251,15 @@ impl State {
                 target,
                 mode,
             } => Ok(self.trace(cells, script, *from, *hold, *to, *target, *mode)),
+            Event::Dumpable { task, value } => Ok(self.set_dumpable(*task, *value)),
+            Event::Dumped { task } => Ok(self.dumped(*task)),
+            Event::OpenFile {
+                hold,
+                file,
+                want,
+                fd,
+            } => self.open(cells, *hold, *file, *want, *fd),
+            Event::CloseFile { fd } => Ok(self.close_file(*fd)),
             Event::Chown {
                 hold,
                 file,
@@ -277,7 +269,7 @@ impl State {
             Event::Chmod { hold, file, mode } => self.chmod(cells, *hold, *file, *mode),
             Event::SetAttr { hold, file, attr } => self.set_attr(cells, *hold, *file, attr),
             Event::Stat { hold, file } => Ok(self.stat(*hold, *file)),
-            Event::Raw { task, call } => self.raw(cells, *task, call),
+            Event::Sweep => Ok(self.sweep()),
         }
     }
 
@@ -290,7 +282,7 @@ impl State {
     }
 
     /// Each credential that something refers to stands in the words of its slot.
-    pub fn stands(&self)
+    pub fn check_in_place(&self)
         ensures { AreInPlace self.now.state self.now.places }
     {
         // The table is read for its invariant alone.
@@ -299,14 +291,14 @@ impl State {
 
     /// The script's files as they stand, by their places.
     #[inline(always)]
-    pub fn infos(&self) -> &FileTable
-        ensures { result.now ≡ self.now.state.infos }
+    pub fn inodes(&self) -> &FileTable
+        ensures { result.now ≡ self.now.state.inodes }
     {
-        &self.infos
+        &self.inodes
     }
 
     /// The sealed credential of this number.
-    fn sealed_at(&self, number: u64) -> Option<Numbered>
+    fn sealed_at(&self, number: u64) -> Option<NumberedSlot>
         ensures { option_map (seen_in self.now.state.creds) result
             ≡ numbered self.now.state.creds number }
     {
@@ -318,7 +310,7 @@ impl State {
     /// # Errors
     ///
     /// `NoMemory` if the allocation of its groups fails.
-    fn read(&mut self, cells: &Cells, found: Numbered) -> Result<Cred, NoMemory>
+    fn read(&mut self, cells: &Cells, found: NumberedSlot) -> Result<Cred, NoMemory>
         requires own { self.old.words.id ≡ cells.now }
         requires found { numbered self.old.state.creds found.number
             ≡ Some (seen_in self.old.state.creds found) }
@@ -331,7 +323,7 @@ impl State {
 
     /// The current credential of a task.
     #[inline(always)]
-    fn current(&self, task: u32) -> Option<Numbered>
+    fn current(&self, task: u32) -> Option<NumberedSlot>
         ensures { option_map (seen_in self.now.state.creds) result
             ≡ current_of self.now.state task }
     {
@@ -340,7 +332,7 @@ impl State {
     }
 
     /// The credential that a task acts with, or the one that it is acted on by.
-    fn credential(&self, task: u32, side: Side) -> Option<Numbered>
+    fn credential(&self, task: u32, side: Side) -> Option<NumberedSlot>
         ensures { option_map (seen_in self.now.state.creds) result
             ≡ credential_of self.now.state task side }
     {
@@ -353,7 +345,7 @@ impl State {
 
     /// The credential that a label holds.
     #[inline(always)]
-    fn held(&self, label: u32) -> Option<Numbered>
+    fn held(&self, label: u32) -> Option<NumberedSlot>
         ensures { option_map (seen_in self.now.state.creds) result ≡ held_by self.now.state label }
     {
         let number = self.holds.get(label)?;

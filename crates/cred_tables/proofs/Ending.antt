@@ -19,7 +19,7 @@ use Rattle.cred_model.proofs.Referred.{all_survive}
 use Rattle.cred_slots.specs.Table.{Table, IsSameBag}
 use Rattle.cred_slots.proofs.Counting.{count-cons, count-append}
 use Rattle.cred_procs.specs.Tasks.{EndsTasks, those}
-use Rattle.cred_tables.specs.Kept.{Parts, AreHeld, state_of, IsKept}
+use Rattle.cred_tables.specs.Kept.{StateLists, AreHeld, state_of, IsKept}
 use Rattle.cred_tables.proofs.Bags.{counts_itself}
 use Rattle.cred_tables.proofs.Filled.{filled_same, no_more_dropped}
 use Rattle.cred_tables.proofs.InUse.{in_use-ended}
@@ -139,7 +139,7 @@ ends_so change tasks after t {r} {t'} {m} {ended} {numbers} {given} task now has
 
 -- ---- the state once tasks have ended
 
-module _ {parts : Parts} {store : List (Option Credential)} {t : Table} (is : IsKept parts store t)
+module _ {parts : StateLists} {store : List (Option Credential)} {t : Table} (is : IsKept parts store t)
     (ends : Task → Bool) where
   abbrev s : State
   s = state_of parts store t
@@ -171,7 +171,7 @@ module _ {parts : Parts} {store : List (Option Credential)} {t : Table} (is : Is
         over_later (record parts { tasks = survivors ends parts.tasks }) store t after all.sealed all.deferred
 
 -- so it is with what the tasks refer to that a commit ends
-pub ended-held : {parts : Parts} {store : List (Option Credential)} {t : Table} (is : IsKept parts store t)
+pub ended-held : {parts : StateLists} {store : List (Option Credential)} {t : Table} (is : IsKept parts store t)
     (change : Change) (after : List Task) (ended numbers given held : List ℕ) {now : ℕ} (found : Option Task) → Some now ≡ option_map (λ t. t.current) found
     → IfSome found (λ owner. EndsTasks (ends_with change owner) parts.tasks after ended numbers) → given ≡ numbers → held ≡ t.held → AreHeld given held
 ended-held is change after ended numbers given held None has ends same is_held = cc
@@ -190,14 +190,14 @@ exit_tests : (s : State) (task : ℕ) (owner : Task) → task_of s task ≡ Some
 exit_tests s task owner is idle own = rw (is, idle, own_owner s task owner is own) refl
 
 -- what the task has left
-abbrev pub exited : Parts → List (Option Credential) → Table → ℕ → Task → Parts
+abbrev pub exited : StateLists → List (Option Credential) → Table → ℕ → Task → StateLists
 exited parts store t task owner = record parts {
   tasks = survivors (is_task task) parts.tasks;
   broadcasts = waits_no_more task parts.broadcasts;
   dumpable = flags_left (state_of parts store t) owner;
 }
 
-pub exit_done : {parts : Parts} {store : List (Option Credential)} {t : Table}
+pub exit_done : {parts : StateLists} {store : List (Option Credential)} {t : Table}
     (is : IsKept parts store t) (task : ℕ) (after : Table) (all : DropsAll t after (left_by (is_task task) parts.tasks))
     (owner : Task) → find (is_task task) parts.tasks ≡ Some owner → not_busy (begun_by (state_of parts store t) task) ≡ Ok tt
     → IsOwn (state_of parts store t) task

@@ -13,7 +13,7 @@ pub mod Ending
 pub mod Spawns
 pub mod Flagged
 pub mod Begun
-pub mod Back
+pub mod Returned
 pub mod Cleared
-pub mod Outs
+pub mod TokensOfLabels
 pub mod Puts

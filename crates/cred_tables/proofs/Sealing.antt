@@ -13,7 +13,7 @@ use Rattle.cred_slots.specs.Table.{Table, IsSameBag, IsOnlyUser, is_kept_in, is_
 use Rattle.cred_slots.proofs.Counting.{count-cons, count-append}
 use Rattle.cred_slots.specs.Table as table
 use Rattle.cred_slots.proofs.Tables.{held_is_referred}
-use Rattle.cred_tables.specs.Kept.{IsInUse, Parts, state_of, creds_in, IsKept, Seals}
+use Rattle.cred_tables.specs.Kept.{IsInUse, StateLists, state_of, creds_in, IsKept, Seals}
 use Rattle.cred_tables.proofs.Bags.{bag-at, bag-more, bag-less}
 use Rattle.cred_tables.proofs.Filled.{filled_same, no_more_counted, no_more_dropped}
 use Rattle.cred_tables.proofs.Free.{full_swept, room-same, free-same}
@@ -55,7 +55,7 @@ finds_full : (s r : State) (does : State → ℕ → Answer × State) → model.
 finds_full s r does full makes =
     ap (λ o. option_map_or (does (model.swept_if_full s)) o (table_full (model.swept_if_full s))) full ∙ ap (λ (x : State). (TableFull, x)) makes
 
-module _ {parts : Parts} {store : List (Option Credential)} {t : Table} (is : IsKept parts store t) where
+module _ {parts : StateLists} {store : List (Option Credential)} {t : Table} (is : IsKept parts store t) where
   -- the state with the room that the table makes
   abbrev pub roomy : State
   roomy = state_of parts store (table.swept_table_if_full t)
@@ -100,12 +100,12 @@ module _ {parts : Parts} {store : List (Option Credential)} {t : Table} (is : Is
       (bag-at u.owner.current is.counted.counts (current-stands s task u.owner u.is))
 
 -- what is in use is referred to
-pub used_is_referred : {parts : Parts} {store : List (Option Credential)} {t : Table} (is : IsKept parts store t) (number : ℕ)
+pub used_is_referred : {parts : StateLists} {store : List (Option Credential)} {t : Table} (is : IsKept parts store t) (number : ℕ)
     → IsInUse (state_of parts store t) number → 0 < table.references_to t number
 used_is_referred {t = t} is number used = held_is_referred t number (bag-at number is.counted.counts used)
 
 -- the room that was made is that of the table without the spare
-pub roomy_spare : (parts : Parts) (store : List (Option Credential)) (t r after : Table) (m : ℕ)
+pub roomy_spare : (parts : StateLists) (store : List (Option Credential)) (t r after : Table) (m : ℕ)
     → r ≡ record t { spare = m } → after ≡ table.swept_table_if_full r
     → state_of parts store (table.swept_table_if_full t) ≡ state_of parts store after
 roomy_spare parts store t r after m is made =
@@ -117,7 +117,7 @@ pub keeps_same : (t after : Table) (slots : List ℕ) → ((slot : ℕ) → is_k
 keeps_same t after slots keeps same slot = ap (λ ks. slice_index_or ks slot false) same ∙ keeps slot
 
 -- the state over a later table
-pub over_later : (parts : Parts) (store : List (Option Credential)) (t later : Table) {ds : List ℕ} → later.sealed ≡ t.sealed → later.deferred ≡ ds
+pub over_later : (parts : StateLists) (store : List (Option Credential)) (t later : Table) {ds : List ℕ} → later.sealed ≡ t.sealed → later.deferred ≡ ds
     → record (state_of parts store t) { deferred = ds } ≡ state_of parts store later
 over_later parts store t later sealed deferred =
     ap (λ (ds : List ℕ). record (state_of parts store t) { deferred = ds }) (sym deferred)
@@ -141,8 +141,8 @@ drops held made = record {
   kept = ap (λ (x : Table). x.kept) made;
 }
 
--- Parts that refer to one number less are kept once it is given up.
-pub kept_less : {parts left : Parts} {store : List (Option Credential)} {t later : Table} {n : ℕ} → IsKept parts store t → Drops t later n
+-- Lists that refer to one number less are kept once it is given up.
+pub kept_less : {parts left : StateLists} {store : List (Option Credential)} {t later : Table} {n : ℕ} → IsKept parts store t → Drops t later n
     → IsSameBag (in_use (state_of parts store t)) (n ∷ in_use (state_of left store later))
     → ((slot : ℕ) → is_kept_in later slot ≡ is_among (kept (state_of left store later)) slot) → IsKept left store later
 kept_less {t = t} {later = later} {n = n} is less bag keeps = record {
@@ -150,9 +150,9 @@ kept_less {t = t} {later = later} {n = n} is less bag keeps = record {
   filled = filled_same less.sealed (no_more_dropped t later (n ∷ []) less.held less.deferred) is.filled;
 }
 
--- Parts that refer to one number more are kept once a reference to it is added, where it was
+-- Lists that refer to one number more are kept once a reference to it is added, where it was
 -- referred to before.
-pub kept_more : {parts more : Parts} {store : List (Option Credential)} {t r later : Table} {n m k : ℕ} → IsKept parts store t
+pub kept_more : {parts more : StateLists} {store : List (Option Credential)} {t r later : Table} {n m k : ℕ} → IsKept parts store t
     → r ≡ record t { spare = m } → IsSameBag later.held (n ∷ r.held) → later ≡ record r { held = later.held; spare = k }
     → IsSameBag (in_use (state_of more store later)) (n ∷ in_use (state_of parts store t))
     → kept (state_of more store later) ≡ kept (state_of parts store t) → 0 < count_by (λ m. m == n) t.held → IsKept more store later

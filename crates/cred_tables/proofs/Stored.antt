@@ -13,7 +13,7 @@ use Rattle.cred_model.specs.Like.{IsLike, IsOutcomeLike}
 use Rattle.cred_model.proofs.Lists.{slice_get-left}
 use Rattle.cred_slots.specs.Table.{Table, IsOnlyUser, is_sealed_in, references_to}
 use Rattle.cred_slots.proofs.Counting.{count-append}
-use Rattle.cred_tables.specs.Kept.{Parts, as_parts, stored_at, creds_in, state_of, IsKept}
+use Rattle.cred_tables.specs.Kept.{StateLists, as_lists, stored_at, creds_in, state_of, IsKept}
 use Rattle.cred_tables.proofs.Bags.{count-at}
 use Rattle.cred_tables.proofs.Free.{IsTable}
 
@@ -34,7 +34,7 @@ pub length-creds_in : (store : List (Option Credential)) (slots : List ℕ) → 
 length-creds_in store [] = refl
 length-creds_in store (slot ∷ slots) = ap suc (length-creds_in store slots)
 
-pub is_table : {parts : Parts} {store : List (Option Credential)} {t : Table}
+pub is_table : {parts : StateLists} {store : List (Option Credential)} {t : Table}
     → IsKept parts store t → IsTable (state_of parts store t) t
 is_table {store = store} {t = t} is = record { counted = is.counted; slots = slots-creds_in store t.sealed; deferred = refl }
 
@@ -71,12 +71,12 @@ refs-counted {a = a} {t = t} is k d lt =
     omega (arith, some, all, held, late, both)
 
 -- the parts of a state
-abbrev pub parts_in : State → Parts
-parts_in s = as_parts s.tasks s.broadcasts s.files s.holds s.prepared s.dumpable s.infos
+abbrev pub parts_in : State → StateLists
+parts_in s = as_lists s.tasks s.broadcasts s.files s.holds s.prepared s.dumpable s.inodes
 
 -- The state in which the credential is put in the slot's place is like the one in which it is
 -- sealed, since nothing else that stood there is referred to any more.
-pub stored_like : {parts : Parts} (store : List (Option Credential)) (t : Table) (before : List ℕ) (c : Credential) (slot : ℕ) (made : State)
+pub stored_like : {parts : StateLists} (store : List (Option Credential)) (t : Table) (before : List ℕ) (c : Credential) (slot : ℕ) (made : State)
     → IsKept parts (slice_set store slot (Some c)) t → t.sealed ≡ before ++ slot ∷ [] → slot < length store
     → IsOnlyUser t (length before) slot
     → parts ≡ parts_in made → t.deferred ≡ made.deferred
@@ -93,14 +93,14 @@ stored_like {parts = parts} store t before c slot made is sealed within alone sa
     let is_new = alone.only n stands some in
     omega (arith, is_new, lt) in
     record {
-      tasks = ap (λ (p : Parts). p.tasks) same;
-      broadcasts = ap (λ (p : Parts). p.broadcasts) same;
-      files = ap (λ (p : Parts). p.files) same;
-      holds = ap (λ (p : Parts). p.holds) same;
-      prepared = ap (λ (p : Parts). p.prepared) same;
+      tasks = ap (λ (p : StateLists). p.tasks) same;
+      broadcasts = ap (λ (p : StateLists). p.broadcasts) same;
+      files = ap (λ (p : StateLists). p.files) same;
+      holds = ap (λ (p : StateLists). p.holds) same;
+      prepared = ap (λ (p : StateLists). p.prepared) same;
       deferred = same_deferred;
-      dumpable = ap (λ (p : Parts). p.dumpable) same;
-      infos = ap (λ (p : Parts). p.infos) same;
+      dumpable = ap (λ (p : StateLists). p.dumpable) same;
+      inodes = ap (λ (p : StateLists). p.inodes) same;
       slots = slots-creds_in put t.sealed ∙ sealed
           ∙ sym (ap (λ (cs : List SealedCred). map (λ sealed. sealed.slot) cs) (sym creds) ∙ slots-push before);
       creds = λ k d lt.
@@ -127,7 +127,7 @@ module _ (store : List (Option Credential)) (slot : ℕ) (v : Option Credential)
       (get_or-set_other store slot s v None ne)
   other_at (s ∷ ss) (suc n) other = other_at ss n other
 
-pub spare_like : {parts : Parts} (store : List (Option Credential)) (t : Table) (slot : ℕ) (v : Option Credential) → IsKept parts store t
+pub spare_like : {parts : StateLists} (store : List (Option Credential)) (t : Table) (slot : ℕ) (v : Option Credential) → IsKept parts store t
     → ((n : ℕ) → slice_get t.sealed n ≡ Some slot → 0 < references_to t n → ⊥)
     → IsLike (state_of parts (slice_set store slot v) t) (state_of parts store t)
 spare_like {parts = parts} store t slot v is none = record {
@@ -138,7 +138,7 @@ spare_like {parts = parts} store t slot v is none = record {
   prepared = refl;
   deferred = refl;
   dumpable = refl;
-  infos = refl;
+  inodes = refl;
   slots = slots-creds_in (slice_set store slot v) t.sealed ∙ sym (slots-creds_in store t.sealed);
   creds = λ k d lt.
       let n : ℕ = get_or (refs (state_of parts store t)) k d in

@@ -12,7 +12,7 @@ use Rattle.cred_model.specs.State.{broadcast_in}
 use Rattle.cred_model.specs.Broadcasts.{others_of, with_broadcast, WaitsNowhere}
 use Rattle.cred_model.specs.Ends.{is_beside}
 use Rattle.cred_model.specs.Moves.{not_overridden}
-use Rattle.cred_cast.specs.Broadcasts.{broadcast_under, broadcast_within}
+use Rattle.cred_broadcasts.specs.Broadcasts.{broadcast_under, broadcast_within}
 use Rattle.cred_procs.specs.Tasks.{task_in, those}
 use Rattle.cred_slots.specs.Table.{Table}
 use Rattle.cred_slots.specs.Table as table

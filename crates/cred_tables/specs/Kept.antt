@@ -17,7 +17,7 @@ use Rattle.cred_hold.specs.Tokens.{Loan}
 use Rattle.cred_slots.specs.Table.{Table, IsSameBag, IsOnlyUser, is_kept_in, swept_table_if_full}
 use Rattle.cred_slots.specs.Table.{free_in}
 use Rattle.cred_slots.specs.Table.{references_to}
-use Rattle.cred_tables.specs.declared.table.Numbered as table
+use Rattle.cred_tables.specs.declared.table.NumberedSlot as table
 
 -- the credential in a slot's place
 abbrev pub stored_at : List (Option Credential) → ℕ → Credential
@@ -33,7 +33,7 @@ cred_under creds number =
     option_map_or (λ sealed. sealed.cred) (slice_get creds number) no_credential
 
 -- a sealed credential with its number, among these
-abbrev pub seen_in : List SealedCred → table.Numbered → Numbered
+abbrev pub seen_in : List SealedCred → table.NumberedSlot → Numbered
 seen_in creds n = record { number = n.number; cred = cred_under creds n.number; slot = n.slot }
 
 -- What is referred to can be read: a credential is in its slot's place. Of other numbers nothing
@@ -44,36 +44,36 @@ pub record AreFilled (store : List (Option Credential)) (t : Table) : Type 0 whe
 
 -- What refers to credentials: a list for each kind of thing that does; and the open broadcasts, the
 -- flags of the processes and the declared files as they stand, which refer to none.
-pub record Parts : Type 0 where
+pub record StateLists : Type 0 where
   pub tasks : List Task
   pub broadcasts : List Broadcast
   pub files : List OpenFile
   pub holds : List Hold
   pub prepared : List Prepared
   pub dumpable : List ProcessFlag
-  pub infos : List File
+  pub inodes : List File
 
-abbrev pub as_parts : List Task → List Broadcast → List OpenFile → List Hold → List Prepared
-    → List ProcessFlag → List File → Parts
-as_parts tasks broadcasts files holds prepared dumpable infos = record {
+abbrev pub as_lists : List Task → List Broadcast → List OpenFile → List Hold → List Prepared
+    → List ProcessFlag → List File → StateLists
+as_lists tasks broadcasts files holds prepared dumpable inodes = record {
   tasks = tasks;
   broadcasts = broadcasts;
   files = files;
   holds = holds;
   prepared = prepared;
   dumpable = dumpable;
-  infos = infos;
+  inodes = inodes;
 }
 
 -- the shared words that credentials stand in: the identity of the cells, and what is lent of them
-pub record Words : Type 0 where
+pub record SharedWords : Type 0 where
   pub id : TableId
   pub out : List Loan
 
 -- a state, the shared words, and for each slot the credential that stands in its words, if one does
 pub record Standing : Type 0 where
   pub state : State
-  pub words : Words
+  pub words : SharedWords
   pub places : List (Option Credential)
 
 -- Each credential that something refers to stands in the words of its slot.
@@ -83,7 +83,7 @@ AreInPlace s places =
     → slice_get s.creds n ≡ Some sealed → slice_get places sealed.slot ≡ Some (Some sealed.cred)
 
 -- the state that is kept so
-abbrev pub state_of : Parts → List (Option Credential) → Table → State
+abbrev pub state_of : StateLists → List (Option Credential) → Table → State
 state_of parts store table = record {
   tasks = parts.tasks;
   broadcasts = parts.broadcasts;
@@ -92,7 +92,7 @@ state_of parts store table = record {
   prepared = parts.prepared;
   deferred = table.deferred;
   dumpable = parts.dumpable;
-  infos = parts.infos;
+  inodes = parts.inodes;
   creds = creds_in store table.sealed;
 }
 
@@ -112,7 +112,8 @@ pub record IsCounted (in_use kept : List ℕ) (table : Table) : Type 0 where
 
 -- The table counts what the parts refer to and keep, and each credential that is referred to is in
 -- its slot's place.
-pub record IsKept (parts : Parts) (store : List (Option Credential)) (table : Table) : Type 0 where
+pub record IsKept (parts : StateLists) (store : List (Option Credential)) (table : Table)
+    : Type 0 where
   pub counted :
       IsCounted (in_use (state_of parts store table)) (kept (state_of parts store table)) table
   pub filled : AreFilled store table

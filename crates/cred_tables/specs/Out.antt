@@ -13,7 +13,7 @@ use Rattle.cred_model.specs.State.{numbered, no_credential}
 use Rattle.cred_names.specs.Labels.{event_labels}
 use Rattle.cred_words.specs.Lists.{Has}
 use Rattle.cred_hold.specs.Tokens.{Loan, loan, IsAlone}
-use Rattle.cred_tables.specs.Kept.{Words}
+use Rattle.cred_tables.specs.Kept.{SharedWords}
 
 -- The event waits for a decision on credentials that are there: those that its labels hold, or the
 -- base of what its label prepares.
@@ -73,6 +73,6 @@ abbrev pub AreSameTokens : List Loan → List Loan → Type 0
 AreSameTokens xs ys = (test : Loan → Bool) → count_by test xs ≡ count_by test ys
 
 -- these tokens have come back, and nothing else was lent or taken back
-pub record AreBack (back : List Loan) (before after : Words) : Type 0 where
+pub record AreBack (back : List Loan) (before after : SharedWords) : Type 0 where
   pub id : after.id ≡ before.id
   pub out : AreSameTokens before.out (back ++ after.out)

@@ -6,7 +6,7 @@ ghost use Rattle.cred_model.specs.Broadcasts.{joined, WaitsNowhere};
 ghost use Rattle.cred_procs.specs.Tasks.{spawned, task_in};
 ghost use Rattle.cred_tables.specs.Begin.{HasBegun, MayWait, broadcast_begun};
 
-use cred_cast::Casts;
+use cred_broadcasts::Broadcasts;
 use cred_ids::NoMemory;
 use cred_procs::Procs;
 use cred_record::IdCall;
@@ -20,7 +20,7 @@ use cred_record::IdCall;
 /// were.
 pub fn begin_in(
     tasks: &Procs,
-    broadcasts: &mut Casts,
+    broadcasts: &mut Broadcasts,
     line: u32,
     task: u32,
     call: &IdCall,
@@ -46,7 +46,7 @@ pub fn begin_in(
 /// the tasks and the broadcasts are as they were.
 pub fn spawn_in(
     tasks: &mut Procs,
-    broadcasts: &mut Casts,
+    broadcasts: &mut Broadcasts,
     task: u32,
     child: u32,
 ) -> Result<(), NoMemory>

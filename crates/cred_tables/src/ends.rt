@@ -5,7 +5,7 @@ ghost use Rattle.cred_model.specs.LabelEvents as model;
 ghost use Rattle.cred_procs.specs.Tasks.{EndsTasks, task_in};
 ghost use Rattle.cred_model.specs.Broadcasts.{broadcasts_left};
 
-use cred_cast::Casts;
+use cred_broadcasts::Broadcasts;
 use cred_event::Change;
 use cred_ids::NoMemory;
 use cred_procs::{CredNumbers, Ended, Procs, TaskList};
@@ -38,10 +38,10 @@ pub fn end_with(
 }
 
 /// The process's broadcast is dropped where one of its threads commits an execve (execve(2)).
-pub fn drop_broadcast(broadcasts: &mut Casts, change: Change, process: u32)
+pub fn drop_broadcast(broadcasts: &mut Broadcasts, change: Change, process: u32)
     ensures { broadcasts.new ≡ broadcasts_left change process broadcasts.old }
 {
     if let Change::Exec { .. } = change {
-        broadcasts.dropped(process);
+        broadcasts.drop_in(process);
     }
 }

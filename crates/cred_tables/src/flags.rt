@@ -10,9 +10,9 @@ ghost use Rattle.cred_model.specs.Moves.{first_task};
 ghost use Rattle.cred_model.specs.State.{Task};
 ghost use Rattle.cred_procs.specs.Tasks.{forked, has_process, task_in};
 
+use cred_dumpable::DumpableFlags;
 use cred_ids::NoMemory;
 use cred_procs::{CredNumbers, Procs};
-use cred_ptrace::Dump;
 
 /// The first thread of a process is created, and the process is dumpable or isn't.
 ///
@@ -21,7 +21,7 @@ use cred_ptrace::Dump;
 /// `NoMemory` if an allocation fails: the tasks and the flags are as they were.
 fn begin_process(
     tasks: &mut Procs,
-    dump: &mut Dump,
+    flags: &mut DumpableFlags,
     task: u32,
     process: u32,
     number: u64,
@@ -29,14 +29,14 @@ fn begin_process(
 ) -> Result<(), NoMemory>
     requires new { task_in tasks.old task ≡ None }
     requires room { length tasks.old < TASKS }
-    requires unused { flag_in dump.old process ≡ None }
+    requires unused { flag_in flags.old process ≡ None }
     ensures tasks { OnOk result (tasks.new ≡ tasks.old ++ first_task task process number ∷ []) }
-    ensures flags { OnOk result (dump.new ≡ with_process_flag dump.old process dumpable) }
+    ensures flags { OnOk result (flags.new ≡ with_process_flag flags.old process dumpable) }
     ensures no_tasks { OnErr result (tasks.new ≡ tasks.old) }
-    ensures no_flags { OnErr result (dump.new ≡ dump.old) }
+    ensures no_flags { OnErr result (flags.new ≡ flags.old) }
 {
     tasks.start(task, process, number)?;
-    if let Err(err) = dump.start(process, dumpable) {
+    if let Err(err) = flags.start(process, dumpable) {
         tasks.remove(task);
         return Err(err);
     }
@@ -51,25 +51,25 @@ fn begin_process(
 /// `NoMemory` if an allocation fails: the tasks and the flags are as they were.
 pub fn start_in(
     tasks: &mut Procs,
-    dump: &mut Dump,
+    flags: &mut DumpableFlags,
     task: u32,
     process: u32,
     number: u64,
 ) -> Result<(), NoMemory>
     requires new { task_in tasks.old task ≡ None }
     requires room { length tasks.old < TASKS }
-    requires own { is_some (flag_in dump.old process) ≡ has_process tasks.old process }
+    requires own { is_some (flag_in flags.old process) ≡ has_process tasks.old process }
     ensures tasks { OnOk result (tasks.new ≡ tasks.old ++ first_task task process number ∷ []) }
-    ensures flags { OnOk result (dump.new
-        ≡ (if has_process tasks.old process then dump.old
-        else with_process_flag dump.old process true)) }
+    ensures flags { OnOk result (flags.new
+        ≡ (if has_process tasks.old process then flags.old
+        else with_process_flag flags.old process true)) }
     ensures no_tasks { OnErr result (tasks.new ≡ tasks.old) }
-    ensures no_flags { OnErr result (dump.new ≡ dump.old) }
+    ensures no_flags { OnErr result (flags.new ≡ flags.old) }
 {
     if tasks.has_process(process) {
         return tasks.start(task, process, number);
     }
-    begin_process(tasks, dump, task, process, number, true)
+    begin_process(tasks, flags, task, process, number, true)
 }
 
 /// A task creates a process (fork(2)), which is dumpable where the task's is.
@@ -79,7 +79,7 @@ pub fn start_in(
 /// `NoMemory` if an allocation fails: the tasks and the flags are as they were.
 pub fn fork_in(
     tasks: &mut Procs,
-    dump: &mut Dump,
+    flags: &mut DumpableFlags,
     task: u32,
     child: u32,
     process: u32,
@@ -87,35 +87,35 @@ pub fn fork_in(
     requires alive { IsSome (task_in tasks.old task) }
     requires new { task_in tasks.old child ≡ None }
     requires room { length tasks.old < TASKS }
-    requires unused { flag_in dump.old process ≡ None }
+    requires unused { flag_in flags.old process ≡ None }
     ensures tasks { OnOk result (tasks.new ≡ forked tasks.old task child process) }
     ensures flags { OnOk result ((owner : Task) → task_in tasks.old task ≡ Some owner
-        → dump.new ≡ with_process_flag dump.old process (is_dumpable dump.old owner.process)) }
+        → flags.new ≡ with_process_flag flags.old process (is_dumpable flags.old owner.process)) }
     ensures no_tasks { OnErr result (tasks.new ≡ tasks.old) }
-    ensures no_flags { OnErr result (dump.new ≡ dump.old) }
+    ensures no_flags { OnErr result (flags.new ≡ flags.old) }
 {
     // Both are there: the task is alive.
     let own = tasks.process_of(task).unwrap();
     let number = tasks.current(task).unwrap();
-    let dumpable = dump.is_dumpable(own);
-    begin_process(tasks, dump, child, process, number, dumpable)
+    let dumpable = flags.is_dumpable(own);
+    begin_process(tasks, flags, child, process, number, dumpable)
 }
 
-/// A task has another credential from now on. `other` says that an effective or a filesystem id is
-/// another one in it: then the task's process is no longer dumpable.
+/// A task has another credential from now on. `ids_changed` says that an effective or a filesystem
+/// id is another one in it: then the task's process is no longer dumpable.
 #[inline(always)]
-pub fn renew_in(tasks: &Procs, dump: &mut Dump, task: u32, other: bool)
+pub fn renew_in(tasks: &Procs, flags: &mut DumpableFlags, task: u32, ids_changed: bool)
     requires { IsSome (task_in tasks.now task) }
     ensures { (owner : Task) → task_in tasks.now task ≡ Some owner
-        → dump.new ≡ renewed dump.old owner.process other }
+        → flags.new ≡ renewed flags.old owner.process ids_changed }
 {
     // Most calls leave these ids, and then the process isn't looked for.
-    if !other {
+    if !ids_changed {
         return;
     }
     // It is there: the task is alive.
     let process = tasks.process_of(task).unwrap();
-    dump.set(process, false);
+    flags.set(process, false);
 }
 
 /// A task ends, and with the last of a process the process. Returns the numbers that the task
@@ -124,20 +124,24 @@ pub fn renew_in(tasks: &Procs, dump: &mut Dump, task: u32, other: bool)
 /// # Errors
 ///
 /// `NoMemory` if an allocation fails: the tasks and the flags are as they were.
-pub fn exit_in(tasks: &mut Procs, dump: &mut Dump, task: u32) -> Result<CredNumbers, NoMemory>
+pub fn exit_in(
+    tasks: &mut Procs,
+    flags: &mut DumpableFlags,
+    task: u32,
+) -> Result<CredNumbers, NoMemory>
     requires { IsSome (task_in tasks.old task) }
     ensures numbers { IfOk result (λ numbers. numbers ≡ left_by (is_task task) tasks.old) }
     ensures tasks { OnOk result (tasks.new ≡ survivors (is_task task) tasks.old) }
     ensures flags { OnOk result ((owner : Task) → task_in tasks.old task ≡ Some owner
-        → dump.new ≡ (if is_some (find (is_beside owner) tasks.old) then dump.old
-        else without_flag dump.old owner.process)) }
+        → flags.new ≡ (if is_some (find (is_beside owner) tasks.old) then flags.old
+        else without_flag flags.old owner.process)) }
     ensures no_tasks { OnErr result (tasks.new ≡ tasks.old) }
-    ensures no_flags { OnErr result (dump.new ≡ dump.old) }
+    ensures no_flags { OnErr result (flags.new ≡ flags.old) }
 {
     // It is there: the task is alive.
     let process = tasks.process_of(task).unwrap();
     let numbers = tasks.exit(task)?;
-    let other = tasks.has_process(process);
-    dump.leave(process, other);
+    let has_other = tasks.has_process(process);
+    flags.leave(process, has_other);
     Ok(numbers)
 }

@@ -19,4 +19,4 @@ pub use flags::{exit_in, fork_in, renew_in, start_in};
 pub use holds::Holds;
 pub use prepared::{Changed, GivenUp, Preparation, Preparing, Ready};
 pub use seal::{drop_all, seal_kept, seal_next, sweep_at};
-pub use table::{Numbered, sealed_at};
+pub use table::{NumberedSlot, sealed_at};

@@ -10,14 +10,14 @@ use cred_slots::Slots;
 
 /// A sealed credential, by its number and its slot. What it says is read from the slot's words.
 #[derive(Clone, Copy)]
-pub struct Numbered {
+pub struct NumberedSlot {
     pub number: u64,
     pub slot: u32,
 }
 
 /// The sealed credential of this number, whatever stands in the words. Where nothing refers to the
 /// number any more, a later credential may stand in its slot.
-pub fn sealed_at(slots: &Slots, number: u64) -> Option<Numbered>
+pub fn sealed_at(slots: &Slots, number: u64) -> Option<NumberedSlot>
     ensures { (places : List (Option Credential)) →
         option_map (seen_in (creds_in places slots.now.sealed)) result
         ≡ model.numbered (creds_in places slots.now.sealed) number }
@@ -26,5 +26,5 @@ pub fn sealed_at(slots: &Slots, number: u64) -> Option<Numbered>
         return None;
     }
     let slot = slots.slot_of(number);
-    Some(Numbered { number, slot })
+    Some(NumberedSlot { number, slot })
 }

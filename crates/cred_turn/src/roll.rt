@@ -4,7 +4,7 @@ ghost use Rattle.cred_turn.specs.Rows.{fresh, home_row, lent_row, HasRow, row_of
 ghost use Rattle.cred_turn.specs.Seen.{pass};
 
 use crate::numbers::LaneNumbers;
-use crate::rule::{Learns, Lends, Order, PassRule, Returns};
+use crate::rule::{LearnsPass, LendsPass, Order, PassRule, ReturnsPass};
 use crate::view::TurnView;
 use atomic_table::{Seat, Table};
 use cred_ids::NoMemory;
@@ -99,7 +99,7 @@ impl Roll {
         let Roll { table, seat } = self;
         let shared = &table.shared;
         Pass {
-            seat: shared.split_seat::<Lends<O>>(seat),
+            seat: shared.split_seat::<LendsPass<O>>(seat),
         }
     }
 
@@ -117,7 +117,7 @@ impl Roll {
         let Pass { seat: back } = pass;
         let Roll { table, seat } = self;
         let shared = &table.shared;
-        shared.join_seat::<Returns>(seat, back);
-        shared.load::<Learns>(seat, 0);
+        shared.join_seat::<ReturnsPass>(seat, back);
+        shared.load::<LearnsPass>(seat, 0);
     }
 }

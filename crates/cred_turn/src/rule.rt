@@ -33,9 +33,9 @@ impl Order for Brand {
 }
 
 /// Lends a row.
-pub struct Lends<O>(PhantomData<O>);
+pub struct LendsPass<O>(PhantomData<O>);
 
-impl<O: Order> Split<TurnView> for Lends<O> {
+impl<O: Order> Split<TurnView> for LendsPass<O> {
     ghost use Rattle.cred_turn.specs.Rule.{after_lending_pass, pass_of};
 
     ghost left = { after_lending_pass O.lane O.numbers };
@@ -44,9 +44,9 @@ impl<O: Order> Split<TurnView> for Lends<O> {
 }
 
 /// Takes a seat back, and sets its pass aside.
-pub struct Returns;
+pub struct ReturnsPass;
 
-impl Join<TurnView> for Returns {
+impl Join<TurnView> for ReturnsPass {
     ghost use Rattle.cred_turn.specs.Rule.{after_return_of_pass};
     ghost use Rattle.cred_turn.specs.declared.view.TurnView.TheVariants.{Spent};
 
@@ -56,9 +56,9 @@ impl Join<TurnView> for Returns {
 }
 
 /// Finds the row of the pass that was set aside as it was lent, and marks it as not lent.
-pub struct Learns;
+pub struct LearnsPass;
 
-impl Play<(), TurnView> for Learns {
+impl Play<(), TurnView> for LearnsPass {
     ghost use Rattle.std.specs.Prelude.{◌≡◌};
     ghost use Rattle.cred_turn.specs.Rule.{LearnedPass};
 

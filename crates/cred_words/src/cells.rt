@@ -11,7 +11,9 @@ ghost use Rattle.cred_words.specs.Words.{token_of};
 ghost use Rattle.cred_words.specs.declared.view.View.TheVariants.{Lent};
 ghost use Rattle.cred_words.specs.Seen.{IsSealedSlot, NoTokenIsOn};
 
-use crate::rule::{Learns, LendsHold, LendsWriter, Loads, Order, Returns, Stores, Words};
+use crate::rule::{
+    LearnsToken, LendsHold, LendsWriter, Loads, Order, ReturnsToken, Stores, WordRule,
+};
 use crate::view::View;
 use atomic_table::{Seat, Table};
 use cred_ids::limits;
@@ -23,7 +25,7 @@ use std::marker::{Brand, Model};
 /// share a `&Cells`. Contracts see which table it is.
 #[derive(Drop)]
 pub struct Cells {
-    table: Table<(), View, (), Words, Global>,
+    table: Table<(), View, (), WordRule, Global>,
 }
 
 impl Model for Cells {
@@ -43,11 +45,11 @@ impl Model for Cells {
 /// The master's token, of which a table has one. It has no bytes. Contracts see its table and its
 /// ledger.
 #[derive(Drop)]
-pub struct Master {
+pub struct MasterSeat {
     seat: Seat<(), View>,
 }
 
-impl Model for Master {
+impl Model for MasterSeat {
     ghost use Rattle.std.specs.Prelude.{◌≡◌, [], length};
     ghost use Rattle.cred_words.specs.Seen.{MasteredWords};
 
@@ -66,11 +68,11 @@ impl Model for Master {
 
 /// A hold that is lent. It has no bytes. Contracts see its table and its token.
 #[derive(Drop)]
-pub struct Hold {
+pub struct HoldSeat {
     seat: Seat<(), View>,
 }
 
-impl Model for Hold {
+impl Model for HoldSeat {
     ghost use Rattle.std.specs.Prelude.{◌≡◌, ◌<◌, [], false};
     ghost use Rattle.cred_words.specs.Seen.{Lending};
 
@@ -89,11 +91,11 @@ impl Model for Hold {
 
 /// A writer that is lent. It has no bytes. Contracts see its table and its token.
 #[derive(Drop)]
-pub struct Writer {
+pub struct WriterSeat {
     seat: Seat<(), View>,
 }
 
-impl Model for Writer {
+impl Model for WriterSeat {
     ghost use Rattle.std.specs.Prelude.{◌≡◌, ◌<◌, [], true};
     ghost use Rattle.cred_words.specs.Seen.{Lending};
 
@@ -120,17 +122,17 @@ fn place_of(slot: u32, i: usize) -> usize
 }
 
 /// The number of words of the table.
-fn word_count() -> usize
-    ensures { result ≡ total }
-{
-    1 + limits::SLOTS * WORDS
-}
+const TOTAL: usize = 1 + limits::SLOTS * WORDS;
 
-/// `n` zeros.
-fn zeros(alloc: Global, n: usize) -> Result<Vec<u64>, AllocError>
-    ensures { IfOk result (λ v. v.items ≡ replicate n 0) }
+/// What the words of a table are at first.
+static ZEROS: [u64; TOTAL] = [0; TOTAL];
+
+/// As many zeros as the table has words. They take no memory of their own: what is copied from
+/// them is cleared in place.
+fn zeros() -> &'static [u64]
+    ensures { result.now ≡ replicate total 0 }
 {
-    vec![in alloc; 0; n]
+    &ZEROS
 }
 
 impl Cells {
@@ -139,18 +141,17 @@ impl Cells {
     /// # Errors
     ///
     /// `AllocError` if the allocation of the table fails.
-    pub fn make(alloc: Global) -> Result<(Cells, Master), AllocError>
+    pub fn make(alloc: Global) -> Result<(Cells, MasterSeat), AllocError>
         ensures { IfOk result (λ r. (r.1.id ≡ r.0) × (r.1.ledger ≡ ledger_of first_master)) }
     {
-        let words = zeros(alloc, word_count())?;
-        let (table, seat) = Table::of_words(alloc, words.as_slice(), &())?;
-        Ok((Cells { table }, Master { seat }))
+        let (table, seat) = Table::of_words(alloc, zeros(), &())?;
+        Ok((Cells { table }, MasterSeat { seat }))
     }
 }
 
-impl Master {
+impl MasterSeat {
     /// Lends a hold on a sealed slot. The new token and its loan have the slot's words.
-    pub fn lend_hold(&mut self, cells: &Cells, label: u32, slot: u32) -> Hold
+    pub fn lend_hold(&mut self, cells: &Cells, label: u32, slot: u32) -> HoldSeat
         requires own { self.old.id ≡ cells.now }
         requires sealed { IsSealedSlot self.old.ledger slot }
         ensures hold { (result.id ≡ self.old.id)
@@ -162,7 +163,7 @@ impl Master {
     }
 
     /// The same at an order that has the label and the slot.
-    fn lend_hold_as<O: Order>(&mut self, cells: &Cells, label: u32, slot: u32) -> Hold
+    fn lend_hold_as<O: Order>(&mut self, cells: &Cells, label: u32, slot: u32) -> HoldSeat
         requires order { (label ≡ O.label) × (slot ≡ O.slot) }
         requires own { self.old.id ≡ cells.now }
         requires sealed { IsSealedSlot self.old.ledger O.slot }
@@ -173,14 +174,14 @@ impl Master {
     {
         let _ = (label, slot);
         let shared = &cells.table.shared;
-        Hold {
+        HoldSeat {
             seat: shared.split_seat::<LendsHold<O>>(&mut self.seat),
         }
     }
 
     /// Lends a writer on a slot on which no token is out. The slot is no longer sealed; the new
     /// token has the words that stand there.
-    pub fn lend_writer(&mut self, cells: &Cells, label: u32, slot: u32) -> Writer
+    pub fn lend_writer(&mut self, cells: &Cells, label: u32, slot: u32) -> WriterSeat
         requires own { self.old.id ≡ cells.now }
         requires within { slot < count }
         requires alone { NoTokenIsOn self.old.ledger slot }
@@ -193,7 +194,7 @@ impl Master {
     }
 
     /// The same at an order that has the label and the slot.
-    fn lend_writer_as<O: Order>(&mut self, cells: &Cells, label: u32, slot: u32) -> Writer
+    fn lend_writer_as<O: Order>(&mut self, cells: &Cells, label: u32, slot: u32) -> WriterSeat
         requires order { (label ≡ O.label) × (slot ≡ O.slot) }
         requires own { self.old.id ≡ cells.now }
         requires within { O.slot < count }
@@ -205,39 +206,39 @@ impl Master {
     {
         let _ = (label, slot);
         let shared = &cells.table.shared;
-        Writer {
+        WriterSeat {
             seat: shared.split_seat::<LendsWriter<O>>(&mut self.seat),
         }
     }
 
     /// Returns a hold, which the master keeps aside. `load_after_return` strikes out its loan.
-    pub fn return_hold(&mut self, cells: &Cells, hold: Hold)
+    pub fn return_hold(&mut self, cells: &Cells, hold: HoldSeat)
         requires own { (self.old.id ≡ cells.now) × (hold.id ≡ cells.now) }
         requires empty { self.old.ledger.kept ≡ None }
         ensures { (self.new.id ≡ self.old.id)
             × (self.new.ledger ≡ ledger_with self.old.ledger.slots self.old.ledger.next
             self.old.ledger.loans (Some hold.token)) }
     {
-        let Hold { seat } = hold;
+        let HoldSeat { seat } = hold;
         let shared = &cells.table.shared;
-        shared.join_seat::<Returns>(&mut self.seat, seat);
+        shared.join_seat::<ReturnsToken>(&mut self.seat, seat);
     }
 
     /// Returns a writer, which the master keeps aside. `load_after_return` strikes out its loan.
-    pub fn return_writer(&mut self, cells: &Cells, writer: Writer)
+    pub fn return_writer(&mut self, cells: &Cells, writer: WriterSeat)
         requires own { (self.old.id ≡ cells.now) × (writer.id ≡ cells.now) }
         requires empty { self.old.ledger.kept ≡ None }
         ensures { (self.new.id ≡ self.old.id)
             × (self.new.ledger ≡ ledger_with self.old.ledger.slots self.old.ledger.next
             self.old.ledger.loans (Some writer.token)) }
     {
-        let Writer { seat } = writer;
+        let WriterSeat { seat } = writer;
         let shared = &cells.table.shared;
-        shared.join_seat::<Returns>(&mut self.seat, seat);
+        shared.join_seat::<ReturnsToken>(&mut self.seat, seat);
     }
 }
 
-impl Master {
+impl MasterSeat {
     /// The load after a return: takes away the token that is kept aside, and its loan. After a
     /// writer the slot has the writer's words, and is sealed where `put` is true and they are a
     /// credential's.
@@ -270,7 +271,7 @@ impl Master {
     {
         let _ = put;
         let shared = &cells.table.shared;
-        shared.load::<Learns<O>>(&mut self.seat, 0);
+        shared.load::<LearnsToken<O>>(&mut self.seat, 0);
     }
 }
 
@@ -288,7 +289,7 @@ fn load_from(cells: &Cells, seat: &mut Seat<(), View>, slot: u32, i: usize) -> u
 }
 
 /// Loads the word `i` of the slot that is held. It waits for nobody.
-pub fn load_word(cells: &Cells, hold: &mut Hold, slot: u32, i: usize) -> u64
+pub fn load_word(cells: &Cells, hold: &mut HoldSeat, slot: u32, i: usize) -> u64
     requires own { hold.old.id ≡ cells.now }
     requires slot { slot ≡ hold.old.token.slot }
     requires within { i < width }
@@ -299,7 +300,7 @@ pub fn load_word(cells: &Cells, hold: &mut Hold, slot: u32, i: usize) -> u64
 }
 
 /// Loads the word `i` of the slot that is written. It waits for nobody.
-pub fn load_own_word(cells: &Cells, writer: &mut Writer, slot: u32, i: usize) -> u64
+pub fn load_own_word(cells: &Cells, writer: &mut WriterSeat, slot: u32, i: usize) -> u64
     requires own { writer.old.id ≡ cells.now }
     requires slot { slot ≡ writer.old.token.slot }
     requires within { i < width }
@@ -310,7 +311,7 @@ pub fn load_own_word(cells: &Cells, writer: &mut Writer, slot: u32, i: usize) ->
 }
 
 /// Stores the word `i` of the slot that is written. It waits for nobody.
-pub fn store_word(cells: &Cells, writer: &mut Writer, slot: u32, i: usize, word: u64)
+pub fn store_word(cells: &Cells, writer: &mut WriterSeat, slot: u32, i: usize, word: u64)
     requires own { writer.old.id ≡ cells.now }
     requires slot { slot ≡ writer.old.token.slot }
     requires within { i < width }
@@ -325,7 +326,7 @@ pub fn store_word(cells: &Cells, writer: &mut Writer, slot: u32, i: usize, word:
 
 /// Stores the word `i` of the slot that is written, unless it stands there already: a load costs
 /// less than a store that is seen by all threads in one order. It waits for nobody.
-pub fn settle_word(cells: &Cells, writer: &mut Writer, slot: u32, i: usize, word: u64)
+pub fn settle_word(cells: &Cells, writer: &mut WriterSeat, slot: u32, i: usize, word: u64)
     requires own { writer.old.id ≡ cells.now }
     requires slot { slot ≡ writer.old.token.slot }
     requires within { i < width }

@@ -8,4 +8,6 @@ pub mod laws;
 mod rule;
 pub mod view;
 
-pub use cells::{Cells, Hold, Master, Writer, load_own_word, load_word, settle_word, store_word};
+pub use cells::{
+    Cells, HoldSeat, MasterSeat, WriterSeat, load_own_word, load_word, settle_word, store_word,
+};

@@ -4,9 +4,9 @@ use atomic_table::{Join, Play, Split, TableRule};
 use std::marker::{Brand, PhantomData};
 
 /// The rule.
-pub struct Words;
+pub struct WordRule;
 
-impl TableRule<(), View, ()> for Words {
+impl TableRule<(), View, ()> for WordRule {
     ghost use Rattle.cred_words.specs.Words.{WordRuleHolds, first_master};
 
     ghost holds = { λ _ s. WordRuleHolds s.words s.views };
@@ -61,9 +61,9 @@ impl<O: Order> Split<View> for LendsWriter<O> {
 }
 
 /// Takes a seat back, and keeps its view aside.
-pub struct Returns;
+pub struct ReturnsToken;
 
-impl Join<View> for Returns {
+impl Join<View> for ReturnsToken {
     ghost use Rattle.cred_words.specs.Words.{after_return_of_token};
     ghost use Rattle.cred_words.specs.declared.view.View.TheVariants.{Spent};
 
@@ -73,9 +73,9 @@ impl Join<View> for Returns {
 }
 
 /// Strikes out the loan of the view kept aside.
-pub struct Learns<O>(PhantomData<O>);
+pub struct LearnsToken<O>(PhantomData<O>);
 
-impl<O: Order> Play<(), View> for Learns<O> {
+impl<O: Order> Play<(), View> for LearnsToken<O> {
     ghost use Rattle.std.specs.Prelude.{◌≡◌};
     ghost use Rattle.cred_words.specs.Words.{LearnedToken};
 

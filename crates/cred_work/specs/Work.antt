@@ -5,13 +5,13 @@ use Rattle.cred_record.specs.Credential.{first_credential}
 use Rattle.cred_record.specs.File.{File}
 use Rattle.cred_event.specs.declared.event.Query.TheVariants.{Ids}
 use Rattle.cred_hold.specs.Tokens.{Held}
-use Rattle.cred_work.specs.declared.lent.Lent.{Lent}
-use Rattle.cred_work.specs.declared.lent.Lent.TheVariants.{Asking}
+use Rattle.cred_work.specs.declared.pending.Pending.{Pending}
+use Rattle.cred_work.specs.declared.pending.Pending.TheVariants.{Asking}
 
 -- what an event is decided by besides credentials, with its line: the file that it names, if it
 -- names one, and the root ids of the base's user namespace and of that one's ancestors, the nearest
 -- first
-pub record Asked : Type 0 where
+pub record Request : Type 0 where
   pub line : ℕ
   pub file : Option File
   pub chain : List ℕ
@@ -21,10 +21,10 @@ pub record Work : Type 0 where
   pub line : ℕ
   pub file : Option File
   pub chain : List ℕ
-  pub lent : Lent
+  pub lent : Pending
 
 -- the work of the event for which these tokens are lent
-abbrev pub work_of : Asked → Lent → Work
+abbrev pub work_of : Request → Pending → Work
 work_of asked lent =
     record { line = asked.line; file = asked.file; chain = asked.chain; lent = lent }
 
@@ -46,6 +46,6 @@ no_hold = record {
 }
 
 -- what is lent for a work, for which something always is
-abbrev pub lent_or_none : Option Lent → Lent
-lent_or_none (Some lent) = lent
-lent_or_none None = Asking no_hold Ids None
+abbrev pub pending_or_none : Option Pending → Pending
+pending_or_none (Some lent) = lent
+pending_or_none None = Asking no_hold Ids None

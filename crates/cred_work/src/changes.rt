@@ -8,7 +8,7 @@ use crate::made::BoxedMade;
 use crate::pause::{NoPause, Pause};
 use cred_decide::{Made, change as change_of};
 use cred_event::{Answer, Change};
-use cred_hold::{Cells, Hold, Writer, put, read};
+use cred_hold::{Cells, HoldToken, Writer, put, read};
 use cred_ids::{Id, NoMemory};
 use cred_record::FileInfo;
 use std::alloc::Global;
@@ -24,7 +24,7 @@ use std::alloc::Global;
 pub fn alter(
     alloc: Global,
     cells: &Cells,
-    base: &mut Hold,
+    base: &mut HoldToken,
     change: &Change,
     file: Option<&FileInfo>,
     chain: &[Id],
@@ -54,7 +54,7 @@ pub(crate) fn alter_boxed<P: Pause>(
     alloc: Global,
     cells: &Cells,
     pause: &P,
-    base: &mut Hold,
+    base: &mut HoldToken,
     change: &Change,
     file: Option<&FileInfo>,
     chain: &[Id],
@@ -83,7 +83,7 @@ fn make<P: Pause>(
     alloc: Global,
     cells: &Cells,
     pause: &P,
-    base: &mut Hold,
+    base: &mut HoldToken,
     change: &Change,
     file: Option<&FileInfo>,
     chain: &[Id],

@@ -10,19 +10,19 @@
 #![tactic(auto)]
 
 mod changes;
-mod lent;
 mod made;
 mod pause;
+mod pending;
 mod performing;
 mod questions;
 mod signals;
 mod work;
 
 pub use changes::alter;
-pub use lent::Lent;
 pub use made::{BoxedMade, unbox};
 pub use pause::{NoPause, Pause};
+pub use pending::Pending;
 pub use performing::perform;
 pub use questions::{decide, may_open};
 pub use signals::decide_signal;
-pub use work::{Asked, Work};
+pub use work::{Request, Work};

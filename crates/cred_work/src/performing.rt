@@ -4,7 +4,7 @@ ghost use Rattle.cred_work.specs.Decisions.{AreOf, PutStays};
 ghost use Rattle.cred_work.specs.DecidedWorks.{Stays, IsDecided};
 
 use crate::pause::Pause;
-use crate::work::{Parts, Work};
+use crate::work::{Work, WorkFields};
 use cred_hold::Cells;
 use cred_ids::NoMemory;
 use std::alloc::Global;
@@ -29,7 +29,7 @@ pub fn perform<P: Pause>(
     ensures same { OnErr result (work.new ≡ work.old) }
 {
     let Work { parts } = work;
-    let Parts {
+    let WorkFields {
         file,
         chain,
         lent,

@@ -11,7 +11,7 @@ use cred_access::may_by;
 use cred_caps::{Cap, CapSet};
 use cred_decide::reply;
 use cred_event::{Answer, Query, Told};
-use cred_hold::{Cells, Hold, read, read_caps, read_groups, read_ids};
+use cred_hold::{Cells, HoldToken, read, read_caps, read_groups, read_ids};
 use cred_ids::NoMemory;
 use cred_record::{FileInfo, Want};
 use std::alloc::Global;
@@ -31,7 +31,7 @@ pub fn decide<P: Pause>(
     alloc: Global,
     cells: &Cells,
     pause: &P,
-    hold: &mut Hold,
+    hold: &mut HoldToken,
     query: Query,
     file: Option<&FileInfo>,
 ) -> Result<Answer, NoMemory>
@@ -86,7 +86,7 @@ fn on_whole<P: Pause>(
     alloc: Global,
     cells: &Cells,
     pause: &P,
-    hold: &mut Hold,
+    hold: &mut HoldToken,
     query: Query,
     file: Option<&FileInfo>,
 ) -> Result<Answer, NoMemory>
@@ -106,7 +106,7 @@ fn check<P: Pause>(
     alloc: Global,
     cells: &Cells,
     pause: &P,
-    hold: &mut Hold,
+    hold: &mut HoldToken,
     file: Option<&FileInfo>,
     want: Want,
 ) -> Result<Answer, NoMemory>
@@ -133,7 +133,7 @@ pub fn may_open<P: Pause>(
     alloc: Global,
     cells: &Cells,
     pause: &P,
-    hold: &mut Hold,
+    hold: &mut HoldToken,
     file: Option<&FileInfo>,
     want: Want,
 ) -> Result<bool, NoMemory>

@@ -3,33 +3,33 @@
 ghost use Rattle.std.specs.Prelude.{◌≡◌, IfOk};
 ghost use Rattle.cred_work.specs.Work.{work_of};
 
-use crate::lent::Lent;
+use crate::pending::Pending;
 use cred_ids::NoMemory;
 use cred_record::{FileInfo, IdList};
 use std::alloc::Global;
 use std::marker::Model;
 
-/// The fields of a work, which are large, or of an `Asked`, for which nothing is lent.
+/// The fields of a work, which are large, or of a `Request`, for which nothing is lent.
 #[derive(Drop)]
-pub(crate) struct Parts {
+pub(crate) struct WorkFields {
     pub(crate) line: u32,
     pub(crate) file: Option<FileInfo>,
     pub(crate) chain: IdList,
-    pub(crate) lent: Option<Lent>,
+    pub(crate) lent: Option<Pending>,
 }
 
 /// What an event is decided by besides credentials, with its line: copies of the file that it
 /// names, if it names one, and of the root ids of the base's user namespace and of that one's
 /// ancestors, the nearest first. It stands in memory of its own, in which there is room for what is
-/// lent. Contracts see the record `Asked` of `specs/Work.antt`.
-pub struct Asked {
-    parts: Box<Parts>,
+/// lent. Contracts see the record `Request` of `specs/Work.antt`.
+pub struct Request {
+    parts: Box<WorkFields>,
 }
 
-impl Model for Asked {
+impl Model for Request {
     ghost use Rattle.cred_work.specs.Work as spec;
 
-    ghost Value = { spec.Asked };
+    ghost Value = { spec.Request };
 
     ghost view = { λ a. record {
       line = a.parts.value.line;
@@ -40,14 +40,14 @@ impl Model for Asked {
 
 /// Written out, so that it is proved here alone: with a derived one, each crate above that drops it
 /// would prove all parts again.
-impl Drop for Asked {
+impl Drop for Request {
     fn drop(self) {
-        let Asked { parts } = self;
+        let Request { parts } = self;
         drop(parts);
     }
 }
 
-impl Asked {
+impl Request {
     /// What is asked for this line, with its file and its root ids.
     ///
     /// # Errors
@@ -58,20 +58,20 @@ impl Asked {
         line: u32,
         file: Option<FileInfo>,
         chain: IdList,
-    ) -> Result<Asked, NoMemory>
+    ) -> Result<Request, NoMemory>
         ensures { IfOk result (λ asked. asked ≡ record {
           line = line;
           file = file;
           chain = chain;
         }) }
     {
-        let parts = Parts {
+        let parts = WorkFields {
             line,
             file,
             chain,
             lent: None,
         };
-        Ok(Asked {
+        Ok(Request {
             parts: Box::new(alloc, parts)?,
         })
     }
@@ -80,19 +80,19 @@ impl Asked {
     /// No memory is taken.
     // Inlined: a call would move what it takes, which is large.
     #[inline(always)]
-    pub fn again(self, line: u32, file: Option<FileInfo>, chain: IdList) -> Asked
+    pub fn reuse(self, line: u32, file: Option<FileInfo>, chain: IdList) -> Request
         ensures { result ≡ record {
           line = line;
           file = file;
           chain = chain;
         } }
     {
-        let Asked { mut parts } = self;
+        let Request { mut parts } = self;
         let its = parts.as_mut();
         its.line = line;
         its.file = file;
         its.chain = chain;
-        Asked { parts }
+        Request { parts }
     }
 
     /// The line whose event it is.
@@ -103,11 +103,11 @@ impl Asked {
     }
 
     /// Its memory.
-    fn into_parts(self) -> Box<Parts>
+    fn into_parts(self) -> Box<WorkFields>
         ensures { (result.value.line ≡ self.line) × (result.value.file ≡ self.file)
             × (result.value.chain ≡ self.chain) }
     {
-        let Asked { parts } = self;
+        let Request { parts } = self;
         parts
     }
 }
@@ -116,7 +116,7 @@ impl Asked {
 /// is made, and what it is decided by. Contracts see the record `Work` of `specs/Work.antt`. To
 /// move one is cheap: it stands in memory of its own.
 pub struct Work {
-    pub(crate) parts: Box<Parts>,
+    pub(crate) parts: Box<WorkFields>,
 }
 
 impl Model for Work {
@@ -128,7 +128,7 @@ impl Model for Work {
       line = w.parts.value.line;
       file = w.parts.value.file;
       chain = w.parts.value.chain;
-      lent = spec.lent_or_none w.parts.value.lent;
+      lent = spec.pending_or_none w.parts.value.lent;
     } };
 
     ghost use Rattle.std.specs.Prelude.{IsSome};
@@ -136,7 +136,7 @@ impl Model for Work {
     ghost invariant = { λ w. IsSome w.parts.value.lent };
 }
 
-/// Written out, as that of `Asked`.
+/// Written out, as that of `Request`.
 impl Drop for Work {
     fn drop(self) {
         let Work { parts } = self;
@@ -148,7 +148,7 @@ impl Work {
     /// The work of the event for which these tokens are lent. No memory is taken.
     // Inlined: a call would move what it takes or gives, which is large.
     #[inline(always)]
-    pub fn of(asked: Asked, lent: Lent) -> Work
+    pub fn of(asked: Request, lent: Pending) -> Work
         ensures { result ≡ work_of asked lent }
     {
         let mut parts = asked.into_parts();
@@ -159,14 +159,14 @@ impl Work {
     /// What it was made of. No memory is taken.
     // Inlined: a call would move what it takes or gives, which is large.
     #[inline(always)]
-    pub fn apart(self) -> (Asked, Lent)
+    pub fn into_parts(self) -> (Request, Pending)
         ensures { self ≡ work_of result.0 result.1 }
     {
         let Work { mut parts } = self;
         let Some(lent) = parts.as_mut().lent.take() else {
             unreachable!()
         };
-        (Asked { parts }, lent)
+        (Request { parts }, lent)
     }
 
     /// The line whose event waits.

@@ -11,6 +11,7 @@ from __future__ import annotations
 import re
 from dataclasses import dataclass, field, replace
 
+from limits import LAST_BITS
 from linux.rows import (
     CAPABILITY, CONTINUE, CREATOR, DENIED_GROUPS, DIRECTORIES, EXECVE_FLAG, FILESYSTEM_IDS, LOOKS,
     NO_NEW_PRIVS_FILE, NO_NEW_PRIVS_IDS, NOT_MODE, OUTER, PLAIN_FILE, SECUREBITS, SET_ID, TRACED,
@@ -322,7 +323,7 @@ class Explainer:
             whom = f"the process of {words[0]}" if form == "dumped" else words[-1]
             text = f"{LOG} line {facts.meanwhile} changes {whom} while this call is under way"
             return Own(text=text)
-        if form == "securebits" and int(words[2]) > 255:
+        if form == "securebits" and int(words[2]) > LAST_BITS:
             return Own(SECUREBITS)
         if form == "setgroups" and pair == ("eperm", "ok"):
             # A log that was recorded inside a user namespace doesn't tell what that denies.

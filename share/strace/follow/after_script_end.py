@@ -20,7 +20,8 @@ if TYPE_CHECKING:
 
 def look_on(converter: Converter, items: list[Item]) -> None:
     """Goes through what is left, for the changes alone: the script stays as it is."""
-    memo = {id(converter.files): converter.files}
+    # What never changes needs no copy, and a long script has many lines.
+    memo = {id(one): one for one in (converter.files, *converter.script.body)}
     kept = copy.deepcopy((converter.script, converter.tasks.told, converter.notes), memo)
     others, strangers = copy.deepcopy(converter.not_converted), set(converter.strangers)
     converter.due = {}

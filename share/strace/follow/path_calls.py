@@ -12,7 +12,7 @@ from ..log import lines
 from ..log.reader import Call
 from ..script.calls import Unheld
 from .descriptors import FILE, KIND, LOOSE, NAMESPACE, PIDFD, descriptor
-from .paths import Paths, link_of
+from .paths import Paths
 from .pids import NOBODY, Pids
 from .places import Located, Mount, Mounts, Where
 from .tasks import Task
@@ -246,7 +246,9 @@ class PathCalls:
         found = where.locate(path)
         if found is None or not self.paths.is_known(found):
             return None
-        real = where.locate(path, None, link_of) if self.paths.files.listed is None else None
+        if self.paths.files.listed is not None:
+            return replace(found, real=None)
+        real = where.locate(path, None, self.paths.link)
         return replace(found, real=real.place if real else None)
 
     def opened(self, task: Task, number: int | None, found: Located) -> None:

@@ -6,13 +6,14 @@ import os
 import re
 from collections.abc import Callable
 from dataclasses import replace
+from functools import lru_cache
 
 from ..files.listing import CUT, SCRIPTS, Files, Found, Missing
 from ..log import lines
 from ..log.reader import Call
 from ..script.calls import ADDRESSES, Unheld, is_address
 from .descriptors import FILE, told
-from .places import Located, Where, no_link
+from .places import Link, Located, Where, no_link
 from .tasks import Task, Tasks
 
 NO_PATH = "its path can't be read: strace writes the whole with -s 4096"
@@ -54,6 +55,8 @@ class Paths:
         # Where in the log it is, and the lines at which symbolic links were others.
         self.line = 0
         self.relinked: dict[str, int] = {}
+        # The paths of a log lead through the same few folders over and over.
+        self.link: Link = lru_cache(maxsize=1024)(link_of)
         self.tasks = tasks
         # Whether a pid is that of a process that isn't of the log, and that runs still.
         self.runs_beside: Callable[[int], bool] = lambda _: False
@@ -119,12 +122,12 @@ class Paths:
         """To where a symbolic link leads that this machine has, where it was there already."""
         if self.relinked.get(place, 0) > self.line:
             raise Unheld(f"line {self.relinked[place]} makes {place} another link than it was")
-        return link_of(place)
+        return self.link(place)
 
     def is_link(self, found: Located) -> bool:
         """Whether a symbolic link lies there. In a list one is known by what it is of."""
         if self.files.listed is None:
-            return link_of(found.place) is not None
+            return self.link(found.place) is not None
         other = None if found.place in self.files.hard else self.files.same.get(found.place)
         return other is not None and os.path.basename(other) != os.path.basename(found.place)
 

@@ -231,7 +231,7 @@ class Where:
         self, base: Located, path: str, link: Link, within: int | None = None
     ) -> Located:
         """Goes along the path, one name after another."""
-        follows = link is not no_link
+        follows, over, doubts = link is not no_link, self.mounts.over, self.mounts.doubts
         place, mount, point = base.start(follows), base.mount, base.point
         doubt = 0 if base is self.root else base.doubt
         root = self.root.start(follows)
@@ -246,16 +246,17 @@ class Where:
                     place = self._above(place)
                 continue
             covered = joined(place, name)
-            target = link(covered) if links and covered not in self.mounts.over else None
+            target = link(covered) if follows and links and covered not in over else None
             if target is not None:
                 links -= 1
                 names += target.split("/")[::-1]
                 place = root if target.startswith("/") else place
                 continue
-            doubt = self.mounts.doubts.get(covered, doubt)
-            place, found = self.mounts.entered(covered)
-            if found is not None:
-                mount, point = found, covered
+            doubt = doubts.get(covered, doubt)
+            place = covered
+            if covered in over:
+                place, mount = self.mounts.entered(covered)
+                point = covered
         return Located(place, mount, point, None, within, doubt)
 
     def _above(self, place: str) -> str:

@@ -9,6 +9,8 @@ from __future__ import annotations
 import re
 from dataclasses import dataclass, field
 
+from limits import LAST_NAMESPACE
+
 from ..script.calls import Said, Unheld
 
 # The greatest id.
@@ -18,7 +20,7 @@ GREATEST = 4294967294
 OVERFLOW = 65534
 
 # docs/FORMATS.md: `n0` to `n15`.
-SPACES = 16
+SPACES = LAST_NAMESPACE + 1
 
 UID_WORDS = frozenset({"setuid", "setreuid", "setresuid", "setfsuid"})
 GID_WORDS = frozenset({"setgid", "setregid", "setresgid", "setfsgid", "setgroups"})

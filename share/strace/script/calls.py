@@ -11,6 +11,7 @@ import re
 from collections.abc import Callable
 from dataclasses import dataclass
 
+import limits
 from capabilities import ALL_CAPABILITIES, CAPABILITIES, SECUREBIT_VALUES
 from linux import rows
 
@@ -30,7 +31,7 @@ VERSIONS = {"1": (0x19980330, 1), "2": (0x20071026, 2), "3": (0x20080522, 2)}
 LOWER = (1 << 32) - 1
 
 # The limit of groups (docs/FORMATS.md).
-GROUPS = 1024
+GROUPS = limits.GROUPS
 
 
 @dataclass(frozen=True)

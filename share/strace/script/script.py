@@ -4,14 +4,14 @@ from __future__ import annotations
 
 from dataclasses import dataclass, field
 
+import limits
+
 from ..files.listing import Files, Found, Listing, Names
 from ..log.reader import Call
 
 # docs/FORMATS.md, the exit statuses and the tests of a line.
-LINES = 20_000
-BYTES = 1 << 20
-FILES = 256
-TASKS = 64
+LINES, BYTES = limits.LINES, limits.BYTES
+FILES, TASKS = limits.FILES, limits.TASKS
 
 
 class Stop(Exception):

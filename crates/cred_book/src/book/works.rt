@@ -15,7 +15,7 @@ ghost use Rattle.cred_work.specs.DecidedWorks.{IsDecided};
 ghost use Rattle.cred_tables.specs.Kept.{AreInPlace};
 ghost use Rattle.cred_tables.specs.Out.{AreHome, tokens_in, needs_tokens};
 ghost use Rattle.cred_state.specs.TokensOut.{loans_of, needs_decision};
-ghost use Rattle.cred_book.specs.Book.{answer_of, infos_in};
+ghost use Rattle.cred_book.specs.Book.{answer_of, inodes_in};
 ghost use Rattle.cred_book.specs.Counts.{HasEntered};
 ghost use Rattle.cred_book.specs.Cursor.{Finishes, BookStands, NoLineIsLeft, steps_left};
 ghost use Rattle.cred_book.specs.Works.{IsChainFor, IsEntered, IsHanded, IsOfLane, IsWorkOf};
@@ -31,7 +31,7 @@ use cred_event::{Entry, Event};
 use cred_hold::Cells;
 use cred_ids::NoMemory;
 use cred_record::{FileInfo, IdList};
-use cred_work::{Asked, Lent, Work};
+use cred_work::{Pending, Request, Work};
 
 impl Book {
     /// Takes a decided work of the lane back, and enters its event, the lane's next one.
@@ -57,18 +57,18 @@ impl Book {
         ensures in_place { AreInPlace (replay self.new.script self.new.journal) self.new.places }
         ensures home { NoLineIsLeft self.new → self.new.words.out ≡ [] }
         // Only the setup changes files.
-        ensures files { lane ≢ 0 → infos_in self.new ≡ infos_in self.old }
+        ensures files { lane ≢ 0 → inodes_in self.new ≡ inodes_in self.old }
         ensures err { IfErr result (λ unfinished. (unfinished.work ≡ work)
             × (self.new ≡ self.old)) }
     {
-        self.stands();
+        self.check_in_place();
         let Some(course) = self.cursors.due(lane) else {
             unreachable!()
         };
         let cursor = self.enter_decided(cells, lane, course, work)?;
         self.take_home(lane);
         self.move_on(lane, course.line(), cursor);
-        self.stands();
+        self.check_in_place();
         Ok(Step::More)
     }
 
@@ -110,7 +110,7 @@ impl Book {
     /// # Errors
     ///
     /// `NoMemory` if an allocation of new memory fails.
-    fn ask(&mut self, line: u32, file: Option<FileInfo>, chain: IdList) -> Result<Asked, NoMemory>
+    fn ask(&mut self, line: u32, file: Option<FileInfo>, chain: IdList) -> Result<Request, NoMemory>
         ensures asked { IfOk result (λ asked. asked ≡ record {
           line = line;
           file = file;
@@ -119,8 +119,8 @@ impl Book {
         ensures same { self.new ≡ self.old }
     {
         match self.spare.take() {
-            Some(spare) => Ok(spare.again(line, file, chain)),
-            None => Asked::new(self.alloc, line, file, chain),
+            Some(spare) => Ok(spare.reuse(line, file, chain)),
+            None => Request::new(self.alloc, line, file, chain),
         }
     }
 
@@ -144,7 +144,7 @@ impl Book {
     /// `NoMemory` if an allocation of one of them fails.
     fn copies(&self, event: &Event, ns: u32) -> Result<(Option<FileInfo>, IdList), NoMemory>
         ensures file { IfOk result (λ made.
-            made.0 ≡ info_of (infos_in self.now) (event_files event.now)) }
+            made.0 ≡ info_of (inodes_in self.now) (event_files event.now)) }
         ensures chain { IfOk result (λ made. made.1 ≡ chain_of self.now.script ns) }
     {
         let chain = IdList::of(self.alloc, declared_chain(&self.script, ns))?;
@@ -159,14 +159,14 @@ impl Book {
     #[inline(always)]
     fn named_file(&self, event: &Event) -> Option<&FileInfo>
         ensures { option_map (λ file. file.now) result
-            ≡ info_of (infos_in self.now) (event_files event.now) }
+            ≡ info_of (inodes_in self.now) (event_files event.now) }
     {
-        event_file(self.state.infos(), event)
+        event_file(self.state.inodes(), event)
     }
 
     /// Lends what the event of the lane's line is decided on, which is then out. `None` where it
     /// doesn't wait for a decision: the book is as it was. No memory is taken.
-    fn lend(&mut self, cells: &Cells, lane: u32, line: u32, event: &Event) -> Option<Lent>
+    fn lend(&mut self, cells: &Cells, lane: u32, line: u32, event: &Event) -> Option<Pending>
         requires own { self.old.words.id ≡ cells.now }
         requires home { AreHome event.now self.old.words.out }
         requires place { lane < length self.old.outs }
@@ -199,7 +199,7 @@ impl Book {
         work: Work,
     ) -> Result<Option<Course>, Unfinished>
         requires own { self.old.words.id ≡ cells.now }
-        requires of { IsWorkOf self.old.script (infos_in self.old) cells.now work }
+        requires of { IsWorkOf self.old.script (inodes_in self.old) cells.now work }
         requires decided { IsDecided work }
         requires line { IsOfLine self.old.script course }
         requires number { course.line ≡ work.line }
@@ -215,7 +215,7 @@ impl Book {
         let Ok(()) = self.kept.reserve(1) else {
             return Err(Unfinished { work });
         };
-        let (asked, lent) = work.apart();
+        let (asked, lent) = work.into_parts();
         let event = lent.event();
         match self.state.enter(cells, lent) {
             Ok(answer) => {

@@ -6,7 +6,7 @@ ghost use Rattle.cred_ids.specs.Limits.{SLOTS};
 
 use crate::tests::parts::id;
 use cred_caps::CapSet;
-use cred_hold::{Cells, Hold, Master, Writer, make, put, read, read_caps, read_ids};
+use cred_hold::{Cells, HoldToken, Master, Writer, make, put, read, read_caps, read_ids};
 use cred_ids::{Groups, Ids4, NoMemory, limits};
 use cred_packed::to_words;
 use cred_record::{Cred, first};
@@ -20,7 +20,7 @@ const TOKEN: usize = 8;
 
 #[test]
 fn tokens_have_no_room_for_a_credential(rt: HostRuntime) -> Result<(), Fail> {
-    assert!(rt; size_of::<Hold>() <= TOKEN && size_of::<Writer>() <= TOKEN);
+    assert!(rt; size_of::<HoldToken>() <= TOKEN && size_of::<Writer>() <= TOKEN);
     assert!(rt; size_of::<Cred>() > TOKEN);
     Ok(())
 }
@@ -52,10 +52,10 @@ struct Found {
 #[derive(Drop)]
 struct Read {
     found: Result<Found, NoMemory>,
-    hold: Hold,
+    hold: HoldToken,
 }
 
-fn read_own(alloc: Global, cells: &Cells, mut hold: Hold) -> Read
+fn read_own(alloc: Global, cells: &Cells, mut hold: HoldToken) -> Read
     requires { hold.id ≡ cells.now }
     ensures found { IfOk result.found (λ f. f.cred ≡ hold.cred) }
     ensures hold { result.hold ≡ hold }
@@ -82,8 +82,8 @@ fn read_two<R: Threads + Sync>(
     rt: &R,
     alloc: Global,
     cells: &Cells,
-    one: Hold,
-    two: Hold,
+    one: HoldToken,
+    two: HoldToken,
 ) -> (Read, Read)
     requires { (one.id ≡ cells.now) × (two.id ≡ cells.now) }
     ensures found { IfOk result.0.found (λ f. f.cred ≡ one.cred)
@@ -108,7 +108,7 @@ fn read_and_put<R: Threads + Sync>(
     rt: &R,
     alloc: Global,
     cells: &Cells,
-    hold: Hold,
+    hold: HoldToken,
     writer: Writer,
     cred: &Cred,
 ) -> (Read, Writer)
@@ -132,15 +132,15 @@ fn read_and_put<R: Threads + Sync>(
 
 /// What is lent at once: three holds and a writer.
 #[derive(Drop)]
-struct Lent {
-    one: Hold,
-    two: Hold,
-    three: Hold,
+struct LentTokens {
+    one: HoldToken,
+    two: HoldToken,
+    three: HoldToken,
     writer: Writer,
 }
 
 /// Lends two holds on slot 0, one on slot 1, and a writer on slot 3.
-fn lend_all(cells: &Cells, master: &mut Master) -> Lent
+fn lend_all(cells: &Cells, master: &mut Master) -> LentTokens
     requires own { master.old.id ≡ cells.now }
     requires none { master.old.loans ≡ [] }
     requires sealed { IsSealed master.old.slots 0 × IsSealed master.old.slots 1 }
@@ -153,7 +153,7 @@ fn lend_all(cells: &Cells, master: &mut Master) -> Lent
     let two = master.lend(cells, 2, 0);
     let three = master.lend(cells, 3, 1);
     let writer = master.lend_writer(cells, 4, 3);
-    Lent {
+    LentTokens {
         one,
         two,
         three,
@@ -162,7 +162,7 @@ fn lend_all(cells: &Cells, master: &mut Master) -> Lent
 }
 
 /// Takes back all that is lent. Nothing is lent then, and the writer's slot has what was put.
-fn return_all(cells: &Cells, master: &mut Master, lent: Lent)
+fn return_all(cells: &Cells, master: &mut Master, lent: LentTokens)
     requires own { master.old.id ≡ cells.now }
     requires tokens { (lent.one.id ≡ cells.now) × (lent.two.id ≡ cells.now)
         × (lent.three.id ≡ cells.now) × (lent.writer.id ≡ cells.now) }
@@ -189,15 +189,15 @@ fn read_all<R: Threads + Sync>(
     rt: &R,
     alloc: Global,
     cells: &Cells,
-    lent: Lent,
+    lent: LentTokens,
     cred: &Cred,
-) -> (AllFound, Lent)
+) -> (AllFound, LentTokens)
     requires { (lent.one.id ≡ cells.now) × (lent.two.id ≡ cells.now)
         × (lent.three.id ≡ cells.now) × (lent.writer.id ≡ cells.now) }
     ensures tokens { result.1
         ≡ record lent { writer = record lent.writer { put = Some cred.now } } }
 {
-    let Lent {
+    let LentTokens {
         one,
         two,
         three,
@@ -227,7 +227,7 @@ fn read_all<R: Threads + Sync>(
         two: found_two,
         three: found,
     };
-    let lent = Lent {
+    let lent = LentTokens {
         one,
         two,
         three,
@@ -281,7 +281,7 @@ fn is_read(read: Result<Found, NoMemory>, cred: &Cred) -> Result<bool, NoMemory>
 
 /// Credentials that are shared.
 #[derive(Drop)]
-struct Creds {
+struct FourCreds {
     zero: Cred,
     one: Cred,
     two: Cred,
@@ -294,7 +294,7 @@ fn share<R: Threads + Sync>(
     alloc: Global,
     cells: &Cells,
     master: &mut Master,
-    creds: &Creds,
+    creds: &FourCreds,
 ) -> (AllFound, Result<Cred, NoMemory>)
     requires own { master.old.id ≡ cells.now }
     requires none { master.old.loans ≡ [] }
@@ -316,8 +316,8 @@ pub(crate) fn many(alloc: Global) -> Result<Cred, Fail> {
     Ok(cred)
 }
 
-fn four_creds(alloc: Global) -> Result<Creds, Fail> {
-    Ok(Creds {
+fn four_creds(alloc: Global) -> Result<FourCreds, Fail> {
+    Ok(FourCreds {
         zero: first(alloc, id(0)?, id(1)?, 3, id(0)?)?,
         one: first(alloc, id(1000)?, id(100)?, 0, id(0)?)?,
         two: first(alloc, id(4294967294)?, id(7)?, 15, id(4294967294)?)?,
@@ -326,7 +326,7 @@ fn four_creds(alloc: Global) -> Result<Creds, Fail> {
 }
 
 /// Whether each read found the credential that was put on its slot.
-fn are_read(found: AllFound, last: &Cred, creds: &Creds) -> Result<bool, NoMemory> {
+fn are_read(found: AllFound, last: &Cred, creds: &FourCreds) -> Result<bool, NoMemory> {
     let AllFound { one, two, three } = found;
     let holds = is_read(one, &creds.zero)? && is_read(two, &creds.zero)?;
     Ok(holds && is_read(three, &creds.one)? && to_words(last) == to_words(&creds.many))

@@ -9,29 +9,34 @@ use cred_event::{Answer, Change, Query, Told};
 use cred_hold::{Cells, Master, make};
 use cred_ids::{Arg, Id, Kind, NoMemory};
 use cred_record::{Cred, IdList, first};
-use cred_work::{Asked, Lent, NoPause, Work, perform};
+use cred_work::{NoPause, Pending, Request, Work, perform};
 use std::alloc::Global;
 use std::test::Fail;
 
 /// What is lent, once it is decided with no file and no root ids.
-fn decided(alloc: Global, cells: &Cells, lent: Lent) -> Result<Lent, NoMemory>
+fn decided(alloc: Global, cells: &Cells, lent: Pending) -> Result<Pending, NoMemory>
     requires own { AreOf cells.now lent }
 {
-    let asked = Asked::new(alloc, 1, None, IdList::of(alloc, &[])?)?;
+    let asked = Request::new(alloc, 1, None, IdList::of(alloc, &[])?)?;
     let mut work = Work::of(asked, lent);
     perform(alloc, cells, &NoPause, &mut work)?;
-    let (_, lent) = work.apart();
+    let (_, lent) = work.into_parts();
     Ok(lent)
 }
 
 /// What a question about the groups of the credential is decided as.
-fn asked(alloc: Global, cells: &Cells, master: &mut Master, cred: &Cred) -> Result<Lent, NoMemory>
+fn asked(
+    alloc: Global,
+    cells: &Cells,
+    master: &mut Master,
+    cred: &Cred,
+) -> Result<Pending, NoMemory>
     requires own { master.old.id ≡ cells.now }
     requires none { master.old.loans ≡ [] }
 {
     seal(cells, master, 0, cred);
     let hold = master.lend(cells, 1, 0);
-    let lent = Lent::Asking {
+    let lent = Pending::Asking {
         hold,
         query: Query::Groups,
         told: None,
@@ -46,14 +51,14 @@ fn altered(
     master: &mut Master,
     cred: &Cred,
     change: Change,
-) -> Result<Lent, NoMemory>
+) -> Result<Pending, NoMemory>
     requires own { master.old.id ≡ cells.now }
     requires none { master.old.loans ≡ [] }
 {
     seal(cells, master, 0, cred);
     let base = master.lend(cells, 1, 0);
     let writer = master.lend_writer(cells, 1, 1);
-    let lent = Lent::Altering {
+    let lent = Pending::Altering {
         base,
         writer,
         change,
@@ -63,9 +68,9 @@ fn altered(
 }
 
 /// Whether the answer is the groups of the credential.
-fn tells_groups(decided: &Lent, cred: &Cred) -> bool {
+fn tells_groups(decided: &Pending, cred: &Cred) -> bool {
     match decided {
-        Lent::Asking {
+        Pending::Asking {
             told: Some(Answer::Told(Told::Groups(ids))),
             ..
         } => ids.items() == cred.groups.items(),
@@ -74,8 +79,8 @@ fn tells_groups(decided: &Lent, cred: &Cred) -> bool {
 }
 
 /// Whether a credential was made with the filesystem user id `now`, where it was `was` before.
-fn makes_fs(decided: Lent, was: Id, now: Id) -> bool {
-    let Lent::Altering { made, .. } = decided else {
+fn makes_fs(decided: Pending, was: Id, now: Id) -> bool {
+    let Pending::Altering { made, .. } = decided else {
         return false;
     };
     let Some(Ok(made)) = made else {

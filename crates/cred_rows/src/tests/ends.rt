@@ -57,7 +57,7 @@ fn first_taken<R: AllocGlobal + Threads + Wait + Sync>(rt: &R) -> Result<Option<
 }
 
 #[test]
-fn a_text_that_is_not_handed_on_is_a_write_fault(rt: HostRuntime) -> Result<(), Fail> {
+fn a_text_that_is_not_flushed_is_a_write_fault(rt: HostRuntime) -> Result<(), Fail> {
     let taken = first_taken(&rt)?;
     assert!(rt; taken.is_none(), "row {taken:?}");
     Ok(())

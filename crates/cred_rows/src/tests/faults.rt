@@ -74,7 +74,7 @@ const SERVICE_REPORT: &str = "2 init t1 p1 0 0 n0 -> ok c0 s0\n\
 /// The words of a command line, whether the command reads, the parts of its input, what it writes
 /// for that, and how it ends. Where one write moves all, each is a line; or, of a run in order, the
 /// entries of a line of its script.
-type Asked = (
+type CommandCase = (
     &'static [&'static str],
     bool,
     &'static [&'static str],
@@ -82,7 +82,7 @@ type Asked = (
     Status,
 );
 
-const ASKED: [Asked; 14] = [
+const CASES: [CommandCase; 14] = [
     (&["run"], true, &[SCRIPT], REPORT, Status::Done),
     (&["lanes"], true, &[SCRIPT], REPORT, Status::Done),
     (&["run"], true, &[SERVICE], SERVICE_REPORT, Status::Done),
@@ -214,12 +214,12 @@ fn reaches(
 /// are written. There is no call 0.
 fn ends_so<R: AllocGlobal + Threads + Wait + Sync>(
     rt: &R,
-    asked: &Asked,
+    case: &CommandCase,
     given: &Given<'_>,
     write: u64,
     (status, reach): (Status, usize),
 ) -> Result<bool, NoMemory> {
-    let (words, _, _, text, _) = asked;
+    let (words, _, _, text, _) = case;
     let mut sink = MemorySink::of(rt.alloc(), &[write])?.with_piece(given.piece.max(1));
     let end = end_of(rt, words, given, &mut sink);
     let is_reached = sink.bytes().len() == reach && text.as_bytes().starts_with(sink.bytes());
@@ -231,18 +231,18 @@ fn ends_so<R: AllocGlobal + Threads + Wait + Sync>(
 /// of these is of a write after the text.
 fn other_write<R: AllocGlobal + Threads + Wait + Sync>(
     rt: &R,
-    asked: &Asked,
+    case: &CommandCase,
     given: &Given<'_>,
     reaches: &[usize],
 ) -> Result<Option<u64>, NoMemory> {
-    let (_, _, _, text, whole) = asked;
+    let (_, _, _, text, whole) = case;
     for (write, reach) in (1..).zip(reaches) {
         let status = if *reach == text.len() {
             *whole
         } else {
             Status::WriteFault
         };
-        if !ends_so(rt, asked, given, write, (status, *reach))? {
+        if !ends_so(rt, case, given, write, (status, *reach))? {
             return Ok(Some(write));
         }
     }
@@ -250,8 +250,8 @@ fn other_write<R: AllocGlobal + Threads + Wait + Sync>(
 }
 
 /// How many reads the program makes of an input: one of each piece, and one that finds the end.
-fn reads_of(asked: &Asked, len: usize, piece: usize) -> u64 {
-    let (_, is_read, _, _, _) = asked;
+fn reads_of(case: &CommandCase, len: usize, piece: usize) -> u64 {
+    let (_, is_read, _, _, _) = case;
     if *is_read {
         (len.div_ceil(piece.max(1)) as u64).saturating_add(1)
     } else {
@@ -262,12 +262,12 @@ fn reads_of(asked: &Asked, len: usize, piece: usize) -> u64 {
 /// The first read after whose failure it goes otherwise. One after the input changes nothing.
 fn other_read<R: AllocGlobal + Threads + Wait + Sync>(
     rt: &R,
-    asked: &Asked,
+    case: &CommandCase,
     input: &[u8],
     piece: usize,
 ) -> Result<Option<u64>, NoMemory> {
-    let (_, _, _, text, whole) = asked;
-    let reads = reads_of(asked, input.len(), piece);
+    let (_, _, _, text, whole) = case;
+    let reads = reads_of(case, input.len(), piece);
     for read in 1..=reads.saturating_add(1) {
         let due = if read <= reads {
             (Status::ReadFault, 0)
@@ -279,7 +279,7 @@ fn other_read<R: AllocGlobal + Threads + Wait + Sync>(
             piece,
             failing: read,
         };
-        if !ends_so(rt, asked, &given, 0, due)? {
+        if !ends_so(rt, case, &given, 0, due)? {
             return Ok(Some(read));
         }
     }
@@ -289,7 +289,7 @@ fn other_read<R: AllocGlobal + Threads + Wait + Sync>(
 /// What goes otherwise of this input where one call moves so much: the read and the write.
 fn others_of<R: AllocGlobal + Threads + Wait + Sync>(
     rt: &R,
-    asked: &Asked,
+    case: &CommandCase,
     input: &[u8],
     piece: usize,
 ) -> Result<[Option<u64>; 2], NoMemory> {
@@ -298,30 +298,30 @@ fn others_of<R: AllocGlobal + Threads + Wait + Sync>(
         piece,
         failing: 0,
     };
-    let ends = ends(rt.alloc(), asked.3, matches!(asked.0, ["run"]))?;
-    let reaches = reaches(rt.alloc(), asked.3, piece, &ends)?;
-    let write = other_write(rt, asked, &given, &reaches);
+    let ends = ends(rt.alloc(), case.3, matches!(case.0, ["run"]))?;
+    let reaches = reaches(rt.alloc(), case.3, piece, &ends)?;
+    let write = other_write(rt, case, &given, &reaches);
     drop(reaches);
-    Ok([other_read(rt, asked, input, piece)?, write?])
+    Ok([other_read(rt, case, input, piece)?, write?])
 }
 
 /// The same of what is asked.
 fn others<R: AllocGlobal + Threads + Wait + Sync>(
     rt: &R,
-    asked: &Asked,
+    case: &CommandCase,
     piece: usize,
 ) -> Result<[Option<u64>; 2], NoMemory> {
-    let input = joined(rt.alloc(), asked.2)?;
-    let others = others_of(rt, asked, &input, piece);
+    let input = joined(rt.alloc(), case.2)?;
+    let others = others_of(rt, case, &input, piece);
     drop(input);
     others
 }
 
 #[test]
 fn a_fault_is_told_and_leaves_what_is_before(rt: HostRuntime) -> Result<(), Fail> {
-    for (row, asked) in ASKED.iter().enumerate() {
+    for (row, case) in CASES.iter().enumerate() {
         for piece in PIECES {
-            let others = others(&rt, asked, piece)?;
+            let others = others(&rt, case, piece)?;
             assert!(rt;
                 others == [None; 2],
                 "row {row}, pieces of {piece}: {others:?}"

@@ -28,7 +28,7 @@ pub(crate) struct Stop(pub(crate) At, pub(crate) &'static [At]);
 
 /// What went wrong at the gate.
 #[derive(Clone, Copy, PartialEq, Eq, Debug)]
-pub(crate) enum Fault {
+pub(crate) enum GateFault {
     /// At this stop a lane has waited for others in vain.
     InVain(At),
     /// A lane has come to a place of this line out of turn: not before the decision, in it and
@@ -59,7 +59,7 @@ const IN_VAIN: u64 = 2;
 /// last, whether some wait was in vain, and the line of a place to which a lane has come out of
 /// turn. There is no line 0.
 #[derive(Drop)]
-pub(crate) struct Held<'m> {
+pub(crate) struct StopGate<'m> {
     stops: &'m [Stop],
     ends: Vec<AtomicU64>,
     lanes: Vec<AtomicU64>,
@@ -77,10 +77,10 @@ fn words(alloc: Global, count: usize) -> Result<Vec<AtomicU64>, NoMemory> {
     Ok(words)
 }
 
-impl Held<'_> {
+impl StopGate<'_> {
     /// A gate with these stops, to which no lane has come.
-    pub(crate) fn at(alloc: Global, stops: &[Stop]) -> Result<Held<'_>, NoMemory> {
-        Ok(Held {
+    pub(crate) fn at(alloc: Global, stops: &[Stop]) -> Result<StopGate<'_>, NoMemory> {
+        Ok(StopGate {
             stops,
             ends: words(alloc, stops.len())?,
             lanes: words(alloc, LANES)?,
@@ -91,14 +91,14 @@ impl Held<'_> {
     }
 
     /// What went wrong, once all lanes have ended.
-    pub(crate) fn fault(&self) -> Option<Fault> {
+    pub(crate) fn fault(&self) -> Option<GateFault> {
         let out_of_turn = self.out_of_turn.load(Ordering::SeqCst);
         if let Some(place) = self.first_stop(IN_VAIN) {
-            Some(Fault::InVain(place))
+            Some(GateFault::InVain(place))
         } else if out_of_turn != 0 {
-            Some(Fault::OutOfTurn(out_of_turn))
+            Some(GateFault::OutOfTurn(out_of_turn))
         } else {
-            self.first_stop(OPEN).map(Fault::PassedBy)
+            self.first_stop(OPEN).map(GateFault::PassedBy)
         }
     }
 
@@ -159,7 +159,7 @@ impl Held<'_> {
     }
 }
 
-impl Gate for Held<'_> {
+impl Gate for StopGate<'_> {
     fn pause(&self, lane: u32, line: u32, place: Place) {
         let here = At(lane, line, place);
         if !self.arrive(here) {

@@ -1,7 +1,7 @@
 //! Lanes that a gate holds at their decisions, until others stand at theirs. So they are seen to
 //! run beside each other: lanes that run one after another can't meet.
 use crate::tests::cuts::is_said_of;
-use crate::tests::gate::{Fault, Held};
+use crate::tests::gate::{GateFault, StopGate};
 use crate::tests::meetings::{MEETINGS, Meeting};
 use crate::tests::runs::{Given, end_of_gated};
 use cred_ids::NoMemory;
@@ -63,7 +63,7 @@ enum Met {
     /// The run ended otherwise.
     Ended(Status),
     /// The lanes have not met at the gate.
-    Not(Fault),
+    Not(GateFault),
     /// The list of entries of this place isn't in the report.
     Without(usize),
     /// An event of the first kind comes after one of the second.
@@ -77,7 +77,7 @@ fn meet<R: AllocGlobal + Threads + Wait + Sync>(
     rt: &R,
     meeting: &Meeting,
     script: &str,
-    gate: &Held<'_>,
+    gate: &StopGate<'_>,
 ) -> Result<Met, NoMemory> {
     let mut sink = MemorySink::of(rt.alloc(), &[])?;
     let end = end_of_gated(
@@ -124,7 +124,7 @@ fn judge<R: AllocGlobal + Threads + Wait + Sync>(
 /// The one owner of a meeting's script and gate.
 fn meets<R: AllocGlobal + Threads + Wait + Sync>(rt: &R, meeting: &Meeting) -> Result<Met, Fail> {
     let script = script_of(rt.alloc(), meeting)?;
-    let gate = Held::at(rt.alloc(), meeting.stops)?;
+    let gate = StopGate::at(rt.alloc(), meeting.stops)?;
     let met = meet(rt, meeting, &script, &gate);
     drop(gate);
     drop(script);

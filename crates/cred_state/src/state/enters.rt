@@ -27,10 +27,10 @@ ghost use Rattle.cred_state.specs.TokensOut.{IsBase, IsMadeOf, IsMadePut, CanOpe
 use crate::state::State;
 use cred_decide::Made;
 use cred_event::{Answer, Change};
-use cred_hold::{Cells, Hold, Writer};
+use cred_hold::{Cells, HoldToken, Writer};
 use cred_ids::NoMemory;
 use cred_tables::Changed;
-use cred_work::{Lent, unbox};
+use cred_work::{Pending, unbox};
 
 impl State {
     /// Enters an event as it was decided, and takes back what was lent for it. A change that is
@@ -42,14 +42,14 @@ impl State {
     /// file that is opened, which nothing refuses. The state is as it was.
     // Inlined: a call would move what it takes or gives, which is large.
     #[inline(always)]
-    pub fn enter(&mut self, cells: &Cells, lent: Lent) -> Result<Answer, Lent>
+    pub fn enter(&mut self, cells: &Cells, lent: Pending) -> Result<Answer, Pending>
         requires own { (self.old.words.id ≡ cells.now) × AreOf cells.now lent }
         requires put { IsPut lent }
         requires sound { IsSound self.old.state }
         requires out { AreOut self.old.state self.old.words.out }
         ensures ok { (script : Declared) (line : ℕ) (chain : List ℕ)
             → IsChain script lent chain
-            → IsRight (info_of self.old.state.infos (event_files (work_event lent))) chain lent
+            → IsRight (info_of self.old.state.inodes (event_files (work_event lent))) chain lent
             → IfOk result (λ answer.
             GivesLike self.old.state (done script self.old.state line (work_event lent)) answer
             self.new.state) }
@@ -60,19 +60,19 @@ impl State {
         ensures stays { OnErr result (StaysLent self.old.state lent) }
     {
         match lent {
-            Lent::Asking { hold, query, told } => match told {
+            Pending::Asking { hold, query, told } => match told {
                 Some(told) => {
                     let label = hold.label();
                     self.take_hold_back(cells, hold);
                     Ok(self.enter_ask(label, told))
                 }
-                None => Err(Lent::Asking {
+                None => Err(Pending::Asking {
                     hold,
                     query,
                     told: None,
                 }),
             },
-            Lent::Opening {
+            Pending::Opening {
                 hold,
                 file,
                 want,
@@ -80,7 +80,7 @@ impl State {
                 may,
             } => match self.enter_open(cells, hold, file, fd, may) {
                 Ok(answer) => Ok(answer),
-                Err(hold) => Err(Lent::Opening {
+                Err(hold) => Err(Pending::Opening {
                     hold,
                     file,
                     want,
@@ -88,7 +88,7 @@ impl State {
                     may,
                 }),
             },
-            Lent::Signalling {
+            Pending::Signalling {
                 from,
                 hold,
                 to,
@@ -102,7 +102,7 @@ impl State {
                     self.take_hold_back(cells, hold);
                     Ok(self.enter_signal(from, own, to, other, may))
                 }
-                None => Err(Lent::Signalling {
+                None => Err(Pending::Signalling {
                     from,
                     hold,
                     to,
@@ -110,7 +110,7 @@ impl State {
                     may: None,
                 }),
             },
-            Lent::Altering {
+            Pending::Altering {
                 base,
                 writer,
                 change,
@@ -120,7 +120,7 @@ impl State {
                     let made = unbox(made);
                     Ok(self.enter_alter(cells, base, writer, change, made))
                 }
-                None => Err(Lent::Altering {
+                None => Err(Pending::Altering {
                     base,
                     writer,
                     change,
@@ -137,7 +137,7 @@ impl State {
     pub(super) fn enter_alter(
         &mut self,
         cells: &Cells,
-        base: Hold,
+        base: HoldToken,
         writer: Writer,
         change: Change,
         made: Result<Made, Answer>,
@@ -149,7 +149,7 @@ impl State {
         requires sound { IsSound self.old.state }
         requires out { AreOut self.old.state self.old.words.out }
         ensures made { (script : Declared) (chain : List ℕ)
-            → IsMadeOf script self.old.state.infos chain base.cred change made
+            → IsMadeOf script self.old.state.inodes chain base.cred change made
             → GivesLike self.old.state (by_alter script self.old.state base.label change) result
             self.new.state }
         ensures taken { AreTaken (loan writer.label writer.slot None ∷ hold_loan base ∷ [])
@@ -178,7 +178,7 @@ impl State {
         requires sound { IsSound self.old.state }
         requires out { AreOut self.old.state self.old.words.out }
         ensures made { (script : Declared) (chain : List ℕ) (base : Credential)
-            → IsMadeOf script self.old.state.infos chain base change made
+            → IsMadeOf script self.old.state.inodes chain base change made
             → IsBase self.old.state label base
             → GivesLike self.old.state (by_alter script self.old.state label change) result
             self.new.state }
@@ -218,16 +218,16 @@ impl State {
     fn enter_open(
         &mut self,
         cells: &Cells,
-        hold: Hold,
+        hold: HoldToken,
         file: u32,
         fd: u32,
         may: Option<bool>,
-    ) -> Result<Answer, Hold>
+    ) -> Result<Answer, HoldToken>
         requires own { (self.old.words.id ≡ cells.now) × (hold.id ≡ cells.now) }
         requires apart { HoldsApart (kept self.old.state) self.old.words.out }
         ensures ok { IfOk result (λ answer. (want : Wanted)
             → IfSome may (λ may. IfSome (held_by self.old.state hold.label) (λ held.
-            checked held.cred (info_of self.old.state.infos (file ∷ [])) want
+            checked held.cred (info_of self.old.state.inodes (file ∷ [])) want
             ≡ (if may then Done else Eacces)))
             → Gives self.old.state (by_open self.old.state hold.label file want fd) answer
             self.new.state) }
@@ -253,7 +253,7 @@ impl State {
     pub(crate) fn enter_ask(&self, label: u32, told: Answer) -> Answer
         ensures { (query : Asked)
             → IfSome (held_by self.now.state label) (λ held.
-            told ≡ reply (info_of self.now.state.infos (query_files query)) held.cred query)
+            told ≡ reply (info_of self.now.state.inodes (query_files query)) held.cred query)
             → Gives self.now.state (by_ask self.now.state label query) result self.now.state }
     {
         let Some(_) = self.held(label) else {
@@ -313,7 +313,7 @@ impl State {
     ) -> Result<Answer, NoMemory>
         ensures ok { IfOk result (λ answer. (want : Wanted)
             → IfSome (held_by self.old.state label) (λ held.
-            checked held.cred (info_of self.old.state.infos (file ∷ [])) want
+            checked held.cred (info_of self.old.state.inodes (file ∷ [])) want
             ≡ (if may then Done else Eacces))
             → Gives self.old.state (by_open self.old.state label file want fd) answer
             self.new.state) }

@@ -12,9 +12,9 @@ ghost use Rattle.cred_state.specs.TokensOut.{IsStanding};
 
 use crate::state::State;
 use cred_event::{Change, Event};
-use cred_hold::{Cells, Hold, Writer};
-use cred_tables::Numbered;
-use cred_work::Lent;
+use cred_hold::{Cells, HoldToken, Writer};
+use cred_tables::NumberedSlot;
+use cred_work::Pending;
 
 /// The namespace of an event that is decided by none. No script declares it, so that its root ids,
 /// of which there are none, take no memory where they are copied.
@@ -25,7 +25,7 @@ impl State {
     /// decided so, or where a label that it names isn't there. It takes no memory.
     // Inlined: a call would move what it takes or gives, which is large.
     #[inline(always)]
-    pub fn lend(&mut self, cells: &Cells, event: &Event) -> Option<Lent>
+    pub fn lend(&mut self, cells: &Cells, event: &Event) -> Option<Pending>
         requires own { self.old.words.id ≡ cells.now }
         requires sound { IsSound self.old.state }
         requires out { AreOut self.old.state self.old.words.out }
@@ -39,7 +39,7 @@ impl State {
         ensures none { IfNone result (self.new ≡ self.old) }
     {
         match event {
-            Event::Ask { label, query } => Some(Lent::Asking {
+            Event::Ask { label, query } => Some(Pending::Asking {
                 hold: self.lend_hold(cells, *label)?,
                 query: *query,
                 told: None,
@@ -49,7 +49,7 @@ impl State {
                 file,
                 want,
                 fd,
-            } => Some(Lent::Opening {
+            } => Some(Pending::Opening {
                 hold: self.lend_hold(cells, *hold)?,
                 file: *file,
                 want: *want,
@@ -64,7 +64,7 @@ impl State {
             } => {
                 let own = self.held(*hold)?;
                 let other = self.held(*target)?;
-                Some(Lent::Signalling {
+                Some(Pending::Signalling {
                     from: *from,
                     hold: self.lend_found(cells, *hold, own),
                     to: *to,
@@ -74,7 +74,7 @@ impl State {
             }
             Event::Alter { label, change } => {
                 let (base, writer) = self.lend_kept(cells, *label)?;
-                Some(Lent::Altering {
+                Some(Pending::Altering {
                     base,
                     writer,
                     change: *change,
@@ -126,7 +126,7 @@ impl State {
     }
 
     /// The user namespace of the credential that was found. Something refers to it.
-    pub(super) fn read_ns(&mut self, cells: &Cells, found: Numbered) -> u32
+    pub(super) fn read_ns(&mut self, cells: &Cells, found: NumberedSlot) -> u32
         requires own { self.old.words.id ≡ cells.now }
         requires found { numbered self.old.state.creds found.number
             ≡ Some (seen_in self.old.state.creds found) }
@@ -138,7 +138,7 @@ impl State {
     }
 
     /// Lends what the label holds. `None` where it holds nothing.
-    fn lend_hold(&mut self, cells: &Cells, label: u32) -> Option<Hold>
+    fn lend_hold(&mut self, cells: &Cells, label: u32) -> Option<HoldToken>
         requires own { self.old.words.id ≡ cells.now }
         requires sound { IsSound self.old.state }
         ensures waits { is_some result ≡ is_some (hold_of self.old.state label) }
@@ -154,7 +154,7 @@ impl State {
     }
 
     /// Lends, under this label, the credential that was found. Something refers to it.
-    pub(super) fn lend_found(&mut self, cells: &Cells, label: u32, found: Numbered) -> Hold
+    pub(super) fn lend_found(&mut self, cells: &Cells, label: u32, found: NumberedSlot) -> HoldToken
         requires own { self.old.words.id ≡ cells.now }
         requires found { numbered self.old.state.creds found.number
             ≡ Some (seen_in self.old.state.creds found) }
@@ -175,7 +175,7 @@ impl State {
     /// `None` where it prepares nothing.
     // Inlined: a call would move what it takes or gives, which is large.
     #[inline(always)]
-    pub(super) fn lend_kept(&mut self, cells: &Cells, label: u32) -> Option<(Hold, Writer)>
+    pub(super) fn lend_kept(&mut self, cells: &Cells, label: u32) -> Option<(HoldToken, Writer)>
         requires own { self.old.words.id ≡ cells.now }
         requires sound { IsSound self.old.state }
         requires out { AreOut self.old.state self.old.words.out }

@@ -3,7 +3,7 @@ ghost use Rattle.std.specs.Prelude.{◌≡◌, None, Some, slice_set};
 ghost use Rattle.cred_model.specs.Like.{IsLike};
 ghost use Rattle.cred_model.specs.Moves.{altered};
 ghost use Rattle.cred_model.specs.Slots.{kept};
-ghost use Rattle.cred_sound.specs.Ledger.{ledger};
+ghost use Rattle.cred_sound.specs.SlotUse.{slot_use};
 ghost use Rattle.cred_sound.specs.Sound.{IsSound};
 ghost use Rattle.cred_words.specs.Lists.{IsTaken};
 ghost use Rattle.cred_hold.specs.Tokens.{loan};
@@ -12,12 +12,12 @@ ghost use Rattle.cred_tables.specs.Out.{AreOut};
 ghost use Rattle.cred_state.specs.TokensOut.{earlier_of, HoldsApart};
 
 use crate::state::State;
-use cred_hold::{Cells, Hold, Writer, forget_put, put};
+use cred_hold::{Cells, HoldToken, Writer, discard, put};
 use cred_tables::{Changed, Preparation};
 
 impl State {
     /// Takes back a hold.
-    pub(crate) fn take_hold_back(&mut self, cells: &Cells, hold: Hold)
+    pub(crate) fn take_hold_back(&mut self, cells: &Cells, hold: HoldToken)
         requires own { (self.old.words.id ≡ cells.now) × (hold.id ≡ cells.now) }
         requires apart { HoldsApart (kept self.old.state) self.old.words.out }
         ensures state { self.new.state ≡ self.old.state }
@@ -57,7 +57,7 @@ impl State {
         requires out { AreOut self.old.state self.old.words.out }
         ensures like { IsLike self.new.state self.old.state }
         ensures state { self.new.state ≡ record self.old.state {
-          creds = creds_in self.new.places (ledger self.old.state).slots;
+          creds = creds_in self.new.places (slot_use self.old.state).slots;
         } }
         ensures places { self.new.places
             ≡ slice_set self.old.places writer.slot (earlier_of self.old.state label) }
@@ -82,7 +82,7 @@ impl State {
                     ..
                 },
             ) => put(cells, writer, &last.cred),
-            _ => forget_put(writer),
+            _ => discard(writer),
         }
     }
 }

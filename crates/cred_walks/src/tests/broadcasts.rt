@@ -8,7 +8,7 @@ use crate::tests::books::{Walk, run_whole, walk_in_book};
 use cred_book::Book;
 use cred_event::Event;
 use cred_hold::Cells;
-use cred_ids::{Arg, Id};
+use cred_ids::{Arg, Id, limits};
 use cred_record::IdCall;
 use cred_report::print;
 use std::alloc::Global;
@@ -20,7 +20,7 @@ const SCRIPT: &str = "init t1 p1 0 0 n0\ninit t2 p1 0 0 n0\ninit t3 p2 0 0 n0\ni
 
 /// An event that an open broadcast may refuse, or the next step in the broadcast of a line.
 #[derive(Clone, Copy)]
-enum Call {
+enum BroadcastEvent {
     Init { task: u32, process: u32 },
     Begin { task: u32 },
     Act { broadcast: u32 },
@@ -28,12 +28,12 @@ enum Call {
 
 /// A line and its event, the text of its entry, and how many references there are to the first
 /// slots then; to all others there are none.
-type Row = (u32, Call, &'static str, [u64; 8]);
+type BroadcastRow = (u32, BroadcastEvent, &'static str, [u64; 8]);
 
-const ROWS: [Row; 8] = [
+const ROWS: [BroadcastRow; 8] = [
     (
         6,
-        Call::Init {
+        BroadcastEvent::Init {
             task: 5,
             process: 1,
         },
@@ -43,7 +43,7 @@ const ROWS: [Row; 8] = [
     // An open broadcast is the answer before a task that exists, and before another of its number.
     (
         6,
-        Call::Init {
+        BroadcastEvent::Init {
             task: 1,
             process: 1,
         },
@@ -52,33 +52,33 @@ const ROWS: [Row; 8] = [
     ),
     (
         5,
-        Call::Begin { task: 2 },
+        BroadcastEvent::Begin { task: 2 },
         "5 begin t2 setgid 7 -> busy 5\n",
         [1, 1, 1, 1, 1, 0, 0, 0],
     ),
     // Its own caller can't begin another either.
     (
         6,
-        Call::Begin { task: 1 },
+        BroadcastEvent::Begin { task: 1 },
         "6 begin t1 setgid 7 -> busy 5\n",
         [1, 1, 1, 1, 1, 0, 0, 0],
     ),
     (
         5,
-        Call::Begin { task: 3 },
+        BroadcastEvent::Begin { task: 3 },
         "5 begin t3 setgid 7 -> exists k5\n",
         [1, 1, 1, 1, 1, 0, 0, 0],
     ),
     // None of them has left anything.
     (
         6,
-        Call::Act { broadcast: 5 },
+        BroadcastEvent::Act { broadcast: 5 },
         "6 act 5 -> ok t2 c5 s5 left 0\n",
         [1, 1, 1, 1, 1, 1, 0, 0],
     ),
     (
         6,
-        Call::Init {
+        BroadcastEvent::Init {
             task: 5,
             process: 1,
         },
@@ -87,30 +87,30 @@ const ROWS: [Row; 8] = [
     ),
     (
         5,
-        Call::Begin { task: 3 },
+        BroadcastEvent::Begin { task: 3 },
         "5 begin t3 setgid 7 -> ok c7 s7 left 1\n",
         [1; 8],
     ),
 ];
 
-fn event_of(call: Call) -> Result<Event, Fail>
+fn event_of(call: BroadcastEvent) -> Result<Event, Fail>
     ensures { IfOk result (λ event.
         (files : ℕ) (declared : List Namespace) → IsEventOf files declared event) }
 {
     let root = Id::new(0).ok_or("root")?;
     match call {
-        Call::Init { task, process } => Ok(Event::Init {
+        BroadcastEvent::Init { task, process } => Ok(Event::Init {
             task,
             process,
             user: root,
             group: root,
             ns: 0,
         }),
-        Call::Begin { task } => Ok(Event::Begin {
+        BroadcastEvent::Begin { task } => Ok(Event::Begin {
             task,
             call: IdCall::SetGid(Arg::of(7)),
         }),
-        Call::Act { broadcast } => Ok(Event::Act { broadcast }),
+        BroadcastEvent::Act { broadcast } => Ok(Event::Act { broadcast }),
     }
 }
 
@@ -120,7 +120,7 @@ fn is_entered(
     cells: &Cells,
     book: &mut Book,
     line: u32,
-    call: Call,
+    call: BroadcastEvent,
     text: &str,
 ) -> Result<bool, Fail>
     requires own { book.old.words.id ≡ cells.now }
@@ -135,7 +135,7 @@ fn is_entered(
 
 /// Whether there are so many references to the first slots, and none to the others.
 fn are_used(book: &Book, first: [u64; 8]) -> bool {
-    (0..256).all(|slot| {
+    (0..limits::SLOTS as u32).all(|slot| {
         let uses = first.get(slot as usize).copied().unwrap_or(0);
         book.uses(slot) == uses
     })

@@ -5,9 +5,10 @@ mod calls;
 ghost use Rattle.std.specs.Prelude.{◌≡◌, []};
 
 use crate::tests::books::{Walk, run_whole, walk_in_book};
-use crate::tests::refused::calls::{CAST, Call, event_of, line_of};
+use crate::tests::refused::calls::{BROADCAST, NamedEvent, event_of, line_of};
 use cred_book::Book;
 use cred_hold::Cells;
+use cred_ids::limits;
 use cred_report::{Text, print};
 use std::alloc::Global;
 use std::test::Fail;
@@ -19,12 +20,12 @@ const SCRIPT: &str = "file a reg 0 0 0600\n\
     take h1 t1\ntake h3 t3\nt5 open a r f1\nbegin t1 setgid 7\n";
 
 /// An event that is refused, whether all slots are live then, and the text of its entry.
-type Row = (Call, bool, &'static str);
+type RefusedRow = (NamedEvent, bool, &'static str);
 
 /// No task 8 or 9 and no label 8 or 9 is there. The answer is what is tested first.
-const ROWS: [Row; 15] = [
+const ROWS: [RefusedRow; 15] = [
     (
-        Call::Init {
+        NamedEvent::Init {
             task: 6,
             process: 1,
         },
@@ -32,7 +33,7 @@ const ROWS: [Row; 15] = [
         "11 init t6 p1 0 0 n0 -> busy 10\n",
     ),
     (
-        Call::Init {
+        NamedEvent::Init {
             task: 1,
             process: 1,
         },
@@ -40,7 +41,7 @@ const ROWS: [Row; 15] = [
         "11 init t1 p1 0 0 n0 -> busy 10\n",
     ),
     (
-        Call::Init {
+        NamedEvent::Init {
             task: 6,
             process: 6,
         },
@@ -48,15 +49,15 @@ const ROWS: [Row; 15] = [
         "11 init t6 p6 0 0 n0 -> table full\n",
     ),
     (
-        Call::Begin {
-            line: CAST,
+        NamedEvent::Begin {
+            line: BROADCAST,
             task: 3,
         },
         false,
         "10 begin t3 setgid 7 -> exists k10\n",
     ),
     (
-        Call::Signal {
+        NamedEvent::Signal {
             from: 8,
             hold: 8,
             to: 9,
@@ -66,7 +67,7 @@ const ROWS: [Row; 15] = [
         "11 signal t8 h8 t9 h9 -> no task t8\n",
     ),
     (
-        Call::Signal {
+        NamedEvent::Signal {
             from: 1,
             hold: 8,
             to: 9,
@@ -76,7 +77,7 @@ const ROWS: [Row; 15] = [
         "11 signal t1 h8 t9 h9 -> no task t9\n",
     ),
     (
-        Call::Signal {
+        NamedEvent::Signal {
             from: 1,
             hold: 8,
             to: 3,
@@ -86,7 +87,7 @@ const ROWS: [Row; 15] = [
         "11 signal t1 h8 t3 h9 -> no hold h8\n",
     ),
     (
-        Call::Signal {
+        NamedEvent::Signal {
             from: 1,
             hold: 1,
             to: 3,
@@ -96,74 +97,74 @@ const ROWS: [Row; 15] = [
         "11 signal t1 h1 t3 h9 -> no hold h9\n",
     ),
     (
-        Call::Open { hold: 9, fd: 1 },
+        NamedEvent::Open { hold: 9, fd: 1 },
         false,
         "11 open h9 a r f1 -> no hold h9\n",
     ),
     (
-        Call::Raw { task: 2 },
+        NamedEvent::Raw { task: 2 },
         false,
         "11 raw t2 setgid 7 -> busy 10\n",
     ),
     (
-        Call::Raw { task: 3 },
+        NamedEvent::Raw { task: 3 },
         true,
         "11 raw t3 setgid 7 -> table full\n",
     ),
     (
-        Call::Chown { hold: 9 },
+        NamedEvent::Chown { hold: 9 },
         false,
         "11 chown h9 a 0 -1 -> no hold h9\n",
     ),
     (
-        Call::Chmod { hold: 9 },
+        NamedEvent::Chmod { hold: 9 },
         false,
         "11 chmod h9 a 4755 -> no hold h9\n",
     ),
     (
-        Call::ClearAttr { hold: 9 },
+        NamedEvent::ClearAttr { hold: 9 },
         false,
         "11 clearattr h9 a -> no hold h9\n",
     ),
     (
-        Call::Stat { hold: 9 },
+        NamedEvent::Stat { hold: 9 },
         false,
         "11 stat h9 a -> no hold h9\n",
     ),
 ];
 
 /// What has made the sweep that a slot is looked for by, where that is refused.
-const SWEEP: (Call, &str) = (Call::Sweep, "11 sweep -> ok\n");
+const SWEEP: (NamedEvent, &str) = (NamedEvent::Sweep, "11 sweep -> ok\n");
 
 /// What comes then: each of the tasks, labels and files is named, and two slots are looked for.
-const NEXT: [Call; 9] = [
-    Call::Take { label: 2, task: 2 },
-    Call::Release { label: 1 },
-    Call::Init {
+const NEXT: [NamedEvent; 9] = [
+    NamedEvent::Take { label: 2, task: 2 },
+    NamedEvent::Release { label: 1 },
+    NamedEvent::Init {
         task: 7,
         process: 6,
     },
-    Call::Act,
-    Call::Init {
+    NamedEvent::Act,
+    NamedEvent::Init {
         task: 6,
         process: 1,
     },
-    Call::Signal {
+    NamedEvent::Signal {
         from: 3,
         hold: 3,
         to: 4,
         target: 2,
     },
-    Call::Open { hold: 3, fd: 2 },
-    Call::Begin {
-        line: CAST,
+    NamedEvent::Open { hold: 3, fd: 2 },
+    NamedEvent::Begin {
+        line: BROADCAST,
         task: 3,
     },
-    Call::Sweep,
+    NamedEvent::Sweep,
 ];
 
 /// The text of the entry that an event gets.
-fn entered(alloc: Global, cells: &Cells, book: &mut Book, call: Call) -> Result<Text, Fail>
+fn entered(alloc: Global, cells: &Cells, book: &mut Book, call: NamedEvent) -> Result<Text, Fail>
     requires own { book.old.words.id ≡ cells.now }
     requires home { book.old.words.out ≡ [] }
     ensures words { book.new.words ≡ book.old.words }
@@ -179,7 +180,7 @@ fn is_entered(
     alloc: Global,
     cells: &Cells,
     book: &mut Book,
-    more: Option<(Call, &'static str)>,
+    more: Option<(NamedEvent, &'static str)>,
 ) -> Result<bool, Fail>
     requires own { book.old.words.id ≡ cells.now }
     requires home { book.old.words.out ≡ [] }
@@ -203,8 +204,8 @@ fn fill(alloc: Global, cells: &Cells, book: &mut Book, is_full: bool) -> Result<
         return Ok(());
     }
     for label in 100..350 {
-        entered(alloc, cells, book, Call::Take { label, task: 5 })?;
-        entered(alloc, cells, book, Call::Begin { line: 12, task: 5 })?;
+        entered(alloc, cells, book, NamedEvent::Take { label, task: 5 })?;
+        entered(alloc, cells, book, NamedEvent::Begin { line: 12, task: 5 })?;
     }
     Ok(())
 }
@@ -223,7 +224,7 @@ fn tell_next(alloc: Global, cells: &Cells, book: &mut Book, told: &mut Vec<u8>) 
 
 /// Adds how many references there are to each slot.
 fn tell_uses(book: &Book, told: &mut Vec<u8>) -> Result<(), Fail> {
-    for slot in 0..256 {
+    for slot in 0..limits::SLOTS as u32 {
         told.push(u8::try_from(book.uses(slot)).unwrap_or(u8::MAX))?;
     }
     Ok(())
@@ -234,7 +235,7 @@ fn tell_uses(book: &Book, told: &mut Vec<u8>) -> Result<(), Fail> {
 #[derive(Drop)]
 struct Behind {
     is_full: bool,
-    more: Option<(Call, &'static str)>,
+    more: Option<(NamedEvent, &'static str)>,
     is_entered: bool,
     told: Vec<u8>,
 }
@@ -254,7 +255,7 @@ impl Walk for Behind {
 fn walked(
     alloc: Global,
     is_full: bool,
-    more: Option<(Call, &'static str)>,
+    more: Option<(NamedEvent, &'static str)>,
 ) -> Result<Behind, Fail> {
     let mut walk = Behind {
         is_full,
@@ -267,7 +268,7 @@ fn walked(
 }
 
 /// Whether the event of a row is refused, and all after it is answered as if it had not been there.
-fn is_alike(alloc: Global, (call, is_full, text): Row) -> Result<bool, Fail> {
+fn is_alike(alloc: Global, (call, is_full, text): RefusedRow) -> Result<bool, Fail> {
     let in_place = if is_full { Some(SWEEP) } else { None };
     let without = walked(alloc, is_full, in_place)?;
     let with = walked(alloc, is_full, Some((call, text)))?;

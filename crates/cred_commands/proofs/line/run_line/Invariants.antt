@@ -1,4 +1,4 @@
-use Rattle.cred_commands.proofs.Goes.{Goes}
+use Rattle.cred_commands.proofs.RunningLine.{RunsLine}
 use Rattle.cred_course.specs.Waiting.{waiting}
 use Rattle.cred_course.specs.Cursor.{left_at}
 use Rattle.std.proofs.Common.{◌≡◌, ◌+◌, Some}
@@ -6,7 +6,7 @@ use Rattle.cred_commands.proofs.line.run_line.Given as goal
 
 abbrev pub invariant-events : goal.invariant-events
 invariant-events l =
-    Goes l.script l.past l.initial.state.state l.state.state l.initial.entries.items l.entries.items l.content l.course
+    RunsLine l.script l.past l.initial.state.state l.state.state l.initial.entries.items l.entries.items l.content l.course
     × (l.state.words ≡ l.initial.state.words)
 
 abbrev pub decreases-events : goal.decreases-events

@@ -1,6 +1,6 @@
 use Rattle.cred_laws.proofs.OrderLaws.{sequence_is_legal}
 use Rattle.cred_model.specs.Journal.{IsSequence}
-use Rattle.cred_said.proofs.Runs.{leaves_any, leaves_script, reads_on}
+use Rattle.cred_output.proofs.Runs.{leaves_any, leaves_script, reads_on}
 use Rattle.cred_commands.proofs.ordered.read_and_run.Goals as goal
 
 pub returns-in-Ok-clause-report : goal.returns-in-Ok-clause-report

@@ -1,6 +1,6 @@
 use Rattle.std.proofs.Common.{sym, ◌∙◌}
-use Rattle.cred_said.specs.declared.status.Status.TheVariants.{Done}
-use Rattle.cred_said.proofs.Finished.{finished_counts, finished_for_text, finished_whole}
+use Rattle.cred_output.specs.declared.status.Status.TheVariants.{Done}
+use Rattle.cred_output.proofs.Finished.{finished_counts, finished_for_text, finished_whole}
 use Rattle.cred_commands.proofs.Kept.{begins_either, sequence_done}
 use Rattle.cred_commands.proofs.ordered.report_in_order.Goals as goal
 
@@ -17,6 +17,6 @@ returns-clause-only g c = finished_for_text c.write_in_order.result c.finish.res
 
 pub returns-clause-writing : goal.returns-clause-writing
 returns-clause-writing g c = record {
-  handed_on = finished_whole c.write_in_order.result Done c.finish.result c.write_in_order.ensures.handed_on c.finish.ensures;
+  flushed = finished_whole c.write_in_order.result Done c.finish.result c.write_in_order.ensures.flushed c.finish.ensures;
   cause = finished_counts c.write_in_order.result Done c.finish.result _ _ (λ fault. cc) c.finish.ensures c.write_in_order.ensures.cause;
 }

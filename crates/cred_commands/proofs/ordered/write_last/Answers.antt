@@ -1,4 +1,4 @@
-use Rattle.cred_said.proofs.Prefixes.{flushed}
+use Rattle.cred_output.proofs.Prefixes.{flushed}
 use Rattle.cred_commands.proofs.ordered.write_last.Goals as goal
 
 pub returns-clause-err : goal.returns-clause-err

@@ -1,4 +1,5 @@
 use Rattle.std.proofs.Common.{◌∙◌, ◌≤◌, length, arith}
+use Rattle.cred_ids.specs.Limits.{LINE_LIMIT}
 use Rattle.cred_commands.proofs.Told.{told_all, told_has_run, told_more, told_room}
 use Rattle.cred_commands.proofs.summing.sum_lines.Goals as goal
 
@@ -8,7 +9,7 @@ run_line-requires-clause-run c = told_has_run c.args.script.now c.lines.past c.l
 pub add-requires : goal.add-requires
 add-requires c =
     let runs = rw c.lines.invariant.empty at c.in_ok-run_line.ensures.runs in
-    let lines : length c.args.script.now.lines ≤ 20000 = omega (arith, c.lines-in-lines.ensures.few, c.lines-in-lines.ensures.count) in
+    let lines : length c.args.script.now.lines ≤ LINE_LIMIT = omega (arith, c.lines-in-lines.ensures.few, c.lines-in-lines.ensures.count) in
     rw c.deref.ensures.value
     (told_room c.args.script.now c.lines.past c.lines.state.state c.run_line.new.state.state c.lines.summary c.run_line.new.entries.items lines
     c.lines.invariant.told runs)

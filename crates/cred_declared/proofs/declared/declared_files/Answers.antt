@@ -1,7 +1,7 @@
 use Rattle.std.proofs.Common.{◌≡◌, ◌<◌, ◌+◌, suc, List, ◌∷◌, [], ◌++◌, length, take, refl, sym, ap, ◌∙◌, arith}
 use Rattle.std.specs.Option.{option_map}
 use Rattle.cred_record.specs.File.{File}
-use Rattle.cred_model.specs.Script.{infos_of}
+use Rattle.cred_model.specs.Script.{inodes_of}
 use Rattle.cred_declared.proofs.Taken.{none_past, takes_file}
 use Rattle.cred_declared.proofs.declared.declared_files.Goals.{in-Some+in_ok-add, in_default}
 use Rattle.cred_declared.proofs.declared.declared_files.Goals as goal
@@ -17,7 +17,7 @@ loop-place-preserved c =
           rw w.files-is
           (w.in_ok-add.ensures.ok ∙ ap (λ (fs : List File). fs ++ file ∷ []) c.loop-place.invariant
           ∙ sym (takes_file script place file _ c.file.ensures (ap (option_map (λ info. info.now)) w.in-Some.is))
-          ∙ ap (λ n. take n (infos_of script)) next)
+          ∙ ap (λ n. take n (inodes_of script)) next)
       | in_default w ↦
           absurd
           (none_past script place _ c.file.ensures (ap (option_map (λ info. info.now)) w.in_default.is)

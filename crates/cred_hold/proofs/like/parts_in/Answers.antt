@@ -14,8 +14,8 @@ gather-requires c =
 pub load_word-requires-clause-within : goal.load_word-requires-clause-within
 load_word-requires-clause-within c = let w = width_is in omega arith
 
-pub known-perm-requires : goal.known-perm-requires
-known-perm-requires c =
+pub from_valid-perm-requires : goal.from_valid-perm-requires
+from_valid-perm-requires c =
     let at = c.load_word.ensures.value ∙ ap (λ h. slice_index h.token.words PERMITTED) c.gather.ensures.same in
     let fact = (word-facts _ c.requires.known).perm in
     omega arith
@@ -23,8 +23,8 @@ known-perm-requires c =
 pub load_word-requires-2-clause-within : goal.load_word-requires-2-clause-within
 load_word-requires-2-clause-within c = let w = width_is in omega arith
 
-pub known-eff-requires : goal.known-eff-requires
-known-eff-requires c =
+pub from_valid-eff-requires : goal.from_valid-eff-requires
+from_valid-eff-requires c =
     let same = c.load_word.ensures.same ∙ c.gather.ensures.same in
     let at = c.load_word-2.ensures.value ∙ ap (λ h. slice_index h.token.words EFFECTIVE) same in
     let fact = (word-facts _ c.requires.known).eff in
@@ -33,8 +33,8 @@ known-eff-requires c =
 pub load_word-requires-3-clause-within : goal.load_word-requires-3-clause-within
 load_word-requires-3-clause-within c = let w = width_is in omega arith
 
-pub known-amb-requires : goal.known-amb-requires
-known-amb-requires c =
+pub from_valid-amb-requires : goal.from_valid-amb-requires
+from_valid-amb-requires c =
     let same = c.load_word-2.ensures.same ∙ c.load_word.ensures.same ∙ c.gather.ensures.same in
     let at = c.load_word-3.ensures.value ∙ ap (λ h. slice_index h.token.words AMBIENT) same in
     let fact = (word-facts _ c.requires.known).amb in
@@ -53,8 +53,8 @@ overflow_cast-load_word c =
     let fact = (word-facts _ c.requires.known).root in
     omega arith
 
-pub known-root-requires : goal.known-root-requires
-known-root-requires c =
+pub from_valid-root-requires : goal.from_valid-root-requires
+from_valid-root-requires c =
     let same = c.load_word-4.ensures.same ∙ c.load_word-3.ensures.same ∙ c.load_word-2.ensures.same ∙ c.load_word.ensures.same ∙ c.gather.ensures.same in
     let at = c.load_word-5.ensures.value ∙ ap (λ h. slice_index h.token.words ROOT) same in
     let fact = (word-facts _ c.requires.known).root in
@@ -68,11 +68,11 @@ returns-clause-parts c =
     let three = c.load_word-2.ensures.same ∙ two in
     let four = c.load_word-3.ensures.same ∙ three in
     let five = c.load_word-4.ensures.same ∙ four in
-    let ids = c.known_ids-uid.ensures c.args.hold.now.token.words c.requires.known c.gather.ensures.words in
-    let perm = c.known-perm.ensures ∙ c.load_word.ensures.value ∙ ap (λ h. slice_index h.token.words PERMITTED) one in
-    let eff = c.known-eff.ensures ∙ c.load_word-2.ensures.value ∙ ap (λ h. slice_index h.token.words EFFECTIVE) two in
-    let amb = c.known-amb.ensures ∙ c.load_word-3.ensures.value ∙ ap (λ h. slice_index h.token.words AMBIENT) three in
+    let ids = c.ids_from_valid-uid.ensures c.args.hold.now.token.words c.requires.known c.gather.ensures.words in
+    let perm = c.from_valid-perm.ensures ∙ c.load_word.ensures.value ∙ ap (λ h. slice_index h.token.words PERMITTED) one in
+    let eff = c.from_valid-eff.ensures ∙ c.load_word-2.ensures.value ∙ ap (λ h. slice_index h.token.words EFFECTIVE) two in
+    let amb = c.from_valid-amb.ensures ∙ c.load_word-3.ensures.value ∙ ap (λ h. slice_index h.token.words AMBIENT) three in
     let flags = c.load_word-4.ensures.value ∙ ap (λ h. slice_index h.token.words FLAGS) four in
     let bits = c.secure_bits-bits.ensures ∙ ap (λ (x : ℕ). x % 2 ^ 8) flags in
-    let root = c.known-root.ensures ∙ c.load_word-5.ensures.value ∙ ap (λ h. slice_index h.token.words ROOT) five in
+    let root = c.from_valid-root.ensures ∙ c.load_word-5.ensures.value ∙ ap (λ h. slice_index h.token.words ROOT) five in
     λ k. record { uid = ids.0 k; gid = ids.1 k; perm = perm k; eff = eff k; amb = amb k; bits = bits k; root = root k }

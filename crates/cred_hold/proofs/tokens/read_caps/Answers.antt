@@ -8,5 +8,5 @@ gather-requires c =
     let w = width_is in
     (omega arith, (ap (λ h. h.id) c.hold.view_is ∙ c.requires, (i.0, (i.2, omega arith))))
 
-pub known_caps-requires : goal.known_caps-requires
-known_caps-requires c = (c.hold.inside.inner.token.words, c.hold.invariant.3, c.gather.ensures.words)
+pub caps_from_valid-requires : goal.caps_from_valid-requires
+caps_from_valid-requires c = (c.hold.inside.inner.token.words, c.hold.invariant.3, c.gather.ensures.words)

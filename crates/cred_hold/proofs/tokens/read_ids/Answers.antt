@@ -8,5 +8,5 @@ gather-requires c =
     let w = width_is in
     (omega arith, (ap (λ h. h.id) c.hold.view_is ∙ c.requires, (i.0, (i.2, omega arith))))
 
-pub known_ids-requires : goal.known_ids-requires
-known_ids-requires c = (c.hold.inside.inner.token.words, c.hold.invariant.3, c.gather.ensures.words)
+pub ids_from_valid-requires : goal.ids_from_valid-requires
+ids_from_valid-requires c = (c.hold.inside.inner.token.words, c.hold.invariant.3, c.gather.ensures.words)

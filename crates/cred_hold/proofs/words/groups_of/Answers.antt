@@ -6,7 +6,7 @@ use Rattle.cred_record.specs.declared.layout.TheConstants.{GROUPS}
 use Rattle.cred_record.specs.Words.{unpaired, half}
 use Rattle.cred_record.proofs.WordLemmas.{length-unpaired, group-at, groups-few}
 use Rattle.cred_record.proofs.Blank.{groups-there, groups-listed}
-use Rattle.cred_record.proofs.Halves.{half-at}
+use Rattle.cred_record.proofs.HalfWords.{half-at}
 use Rattle.cred_words.proofs.Opens.{width_is}
 use Rattle.cred_hold.proofs.Whole.{length-known}
 use Rattle.cred_hold.proofs.words.groups_of.Goals as goal
@@ -19,8 +19,8 @@ load_word-word-requires-clause-within c =
     let w = width_is in
     omega arith
 
-pub known_group-requires : goal.known_group-requires
-known_group-requires c =
+pub group_from_valid-requires : goal.group_from_valid-requires
+group_from_valid-requires c =
     let ws = c.args.hold.now.token.words in
     let i = c.loop-place.invariant in
     let n = c.loop-place.place in
@@ -45,8 +45,8 @@ loop-place-preserved c =
     let word = c.load_word-word.ensures.value ∙ ap (λ h. slice_index h.token.words (GROUPS + n / 2)) i.0 in
     let items =
     c.in_ok-push.ensures.items ∙
-    ap (λ xs. xs ++ c.known_group.result ∷ []) i.1 ∙
-    ap (λ x. take n ns ++ x ∷ []) (c.known_group.ensures ∙ ap (λ (x : ℕ). half x n) word ∙ half-at ws n) ∙
+    ap (λ xs. xs ++ c.group_from_valid.result ∷ []) i.1 ∙
+    ap (λ x. take n ns ++ x ∷ []) (c.group_from_valid.ensures ∙ ap (λ (x : ℕ). half x n) word ∙ half-at ws n) ∙
     sym (take_more ns n 0 (omega arith)) in
     (c.load_word-word.ensures.same ∙ i.0, items)
 

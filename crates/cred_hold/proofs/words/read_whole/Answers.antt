@@ -1,7 +1,7 @@
 use Rattle.std.proofs.Common.{List, ℕ, slice_index, sym, ap, ◌∙◌, subst, arith}
 use Rattle.cred_record.specs.declared.layout.TheConstants.{FLAGS, GROUPS}
 use Rattle.cred_record.specs.Words.{are_words, credential_in, group_count, IsCredential}
-use Rattle.cred_record.proofs.Halves.{head-is, joined}
+use Rattle.cred_record.proofs.HalfWords.{head-is, joined}
 use Rattle.cred_words.proofs.Opens.{width_is}
 use Rattle.cred_hold.proofs.Slots.{part-at}
 use Rattle.cred_hold.proofs.Whole.{length-known}
@@ -22,11 +22,11 @@ groups_of-requires-clause-count c =
     ap group_count (part-at ws c.gather-first.result GROUPS 0 FLAGS c.gather-first.ensures.words (omega arith)) ∙
     sym (ap (λ h. group_count (slice_index h.token.words FLAGS)) c.gather-first.ensures.same)
 
-pub known_head-requires : goal.known_head-requires
-known_head-requires c =
+pub head_from_valid-requires : goal.head_from_valid-requires
+head_from_valid-requires c =
     subst (λ (ws : List ℕ). IsCredential (credential_in ws)) (sym c.gather-first.ensures.words) (head-is c.args.hold.now.token.words c.requires.known)
 
 pub returns-clause-cred : goal.returns-clause-cred
 returns-clause-cred c =
     let groups = c.in_ok-groups.ensures.groups ∙ ap (λ h. (credential_in h.token.words).groups) c.gather-first.ensures.same in
-    c.known_head.ensures ∙ joined c.args.hold.now.token.words _ _ c.gather-first.ensures.words groups
+    c.head_from_valid.ensures ∙ joined c.args.hold.now.token.words _ _ c.gather-first.ensures.words groups

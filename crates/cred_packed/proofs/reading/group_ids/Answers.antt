@@ -4,7 +4,7 @@ use Rattle.cred_ids.specs.Id.{IsId}
 use Rattle.cred_record.specs.declared.layout.TheConstants.{GROUPS}
 use Rattle.cred_record.specs.Words.{unpaired}
 use Rattle.cred_record.proofs.WordLemmas.{length-unpaired}
-use Rattle.cred_record.proofs.Halves.{half-at}
+use Rattle.cred_record.proofs.HalfWords.{half-at}
 use Rattle.cred_packed.proofs.reading.group_ids.Goals as goal
 
 pub returns-in_default-clause-none : goal.returns-in_default-clause-none

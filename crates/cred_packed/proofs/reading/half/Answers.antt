@@ -1,5 +1,5 @@
 use Rattle.std.proofs.Common.{sym, ◌∙◌, arith}
-use Rattle.cred_record.proofs.Halves.{half-even, half-odd}
+use Rattle.cred_record.proofs.HalfWords.{half-even, half-odd}
 use Rattle.cred_packed.proofs.reading.half.Goals as goal
 
 pub returns-then-place-eq0 : goal.returns-then-place-eq0

@@ -2,7 +2,7 @@ use Rattle.std.proofs.Common.{List, ℕ, Some, sym, ap, ◌∙◌, subst}
 use Rattle.std.specs.Cmp.Lexicographic.{same_text, other_text}
 use Rattle.cred_record.specs.Words.{IsCredential, credential_in, words_of}
 use Rattle.cred_record.proofs.WordLemmas.{spelled}
-use Rattle.cred_record.proofs.Halves.{joined, head-is}
+use Rattle.cred_record.proofs.HalfWords.{joined, head-is}
 use Rattle.cred_packed.proofs.reading.of_words.Goals as goal
 
 pub returns-in_default-clause-each_value : goal.returns-in_default-clause-each_value

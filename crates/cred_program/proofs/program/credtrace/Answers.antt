@@ -1,7 +1,7 @@
 use Rattle.std.proofs.Common.{subst}
 use Rattle.cred_inspect.specs.Operands.{SuitsOperand}
-use Rattle.cred_said.specs.declared.status.Status.TheVariants.{ReadFault}
-use Rattle.cred_said.proofs.Finished.{for_text_apart}
+use Rattle.cred_output.specs.declared.status.Status.TheVariants.{ReadFault}
+use Rattle.cred_output.proofs.Finished.{for_text_apart}
 use Rattle.cred_program.proofs.Unread.{unread}
 use Rattle.cred_program.proofs.program.credtrace.Goals as goal
 

@@ -1,5 +1,5 @@
 use Rattle.cred_model.specs.Journal.{IsLegal}
-use Rattle.cred_said.proofs.Runs.{leaves_any, leaves_script, reads_on}
+use Rattle.cred_output.proofs.Runs.{leaves_any, leaves_script, reads_on}
 use Rattle.cred_runs.proofs.runs.read_and_lanes.Goals as goal
 
 pub returns-in-Ok-clause-report : goal.returns-in-Ok-clause-report

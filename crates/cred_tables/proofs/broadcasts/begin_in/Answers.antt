@@ -6,7 +6,7 @@ use Rattle.cred_model.specs.Ends.{is_beside}
 use Rattle.cred_model.proofs.Places.{if_some}
 use Rattle.cred_model.proofs.Rising.{length-in_order}
 use Rattle.cred_model.specs.Broadcasts.{WaitsNowhere}
-use Rattle.cred_cast.specs.Broadcasts.{broadcast_within}
+use Rattle.cred_broadcasts.specs.Broadcasts.{broadcast_within}
 use Rattle.cred_procs.specs.Tasks.{task_in, those}
 use Rattle.cred_tables.specs.Begin.{HasBegun, broadcast_begun}
 use Rattle.cred_tables.proofs.Begun.{begun_broadcasts, few_those}

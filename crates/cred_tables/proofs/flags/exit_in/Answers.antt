@@ -10,6 +10,6 @@ unwrap-process-requires c =
 pub returns-clause-flags : goal.returns-clause-flags
 returns-clause-flags c = λ owner lives.
     left_flags c.args.tasks.now c.args.task c.unwrap-process.result c.process_of.ensures
-    c.unwrap-process.ensures owner lives c.exit.new.self c.args.dump.now c.leave.new.self
-    c.has_process-other.result c.in_ok-numbers.ensures.tasks c.has_process-other.ensures
+    c.unwrap-process.ensures owner lives c.exit.new.self c.args.flags.now c.leave.new.self
+    c.has_process-has_other.result c.in_ok-numbers.ensures.tasks c.has_process-has_other.ensures
     c.leave.ensures

@@ -25,7 +25,7 @@ pub returns-clause-flags : goal.returns-clause-flags
 returns-clause-flags c =
     on_ok c.begin_process.result
     (λ made owner lives. forked_flag c.args.tasks.now c.args.task c.unwrap-own.result
-    c.process_of.ensures c.unwrap-own.ensures owner lives c.args.dump.now
-    c.begin_process.new.dump c.args.process c.is_dumpable-dumpable.result
+    c.process_of.ensures c.unwrap-own.ensures owner lives c.args.flags.now
+    c.begin_process.new.flags c.args.process c.is_dumpable-dumpable.result
     c.is_dumpable-dumpable.ensures made)
     c.begin_process.ensures.flags

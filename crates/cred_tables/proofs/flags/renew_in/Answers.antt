@@ -12,6 +12,6 @@ unwrap-process-requires c =
 pub returns : goal.returns
 returns c = λ owner lives.
     renewed_flag c.args.tasks.now c.args.task c.unwrap-process.result c.process_of.ensures
-    c.unwrap-process.ensures owner lives c.args.dump.now c.set.new.self c.args.other
+    c.unwrap-process.ensures owner lives c.args.flags.now c.set.new.self c.args.ids_changed
     (c.set.ensures
-    ∙ ap (renewed c.args.dump.now c.unwrap-process.result) (sym c.if-not-other.false))
+    ∙ ap (renewed c.args.flags.now c.unwrap-process.result) (sym c.if-not-ids_changed.false))

@@ -1,5 +1,5 @@
 //! What events on holds, open files and prepared labels do to the lists.
-use crate::tests::counted::lists::{Lists, Owner, Prepared, Purpose};
+use crate::tests::counted::lists::{Lists, Owner, PreparedLabel, Purpose};
 use crate::tests::counted::walk::{is_rule, sealed};
 use cred_event::{Answer, Change, Event, Side};
 use cred_ids::NoMemory;
@@ -37,7 +37,7 @@ impl Lists {
             return Ok(false);
         };
         self.refers(Owner::Hold(label), cred)?;
-        Ok(number == Some(cred) && self.stands(cred, slot))
+        Ok(number == Some(cred) && self.was_sealed_in(cred, slot))
     }
 
     fn drops(&mut self, owner: Owner, answer: &Answer) -> bool {
@@ -79,7 +79,7 @@ impl Lists {
             return Ok(false);
         };
         self.refers(Owner::Prepared(label), base)?;
-        self.prepared.push(Prepared {
+        self.prepared.push(PreparedLabel {
             label,
             task,
             slot,
@@ -123,7 +123,7 @@ impl Lists {
         }
     }
 
-    fn commits_in(&mut self, own: Prepared, cred: u64, slot: u32) -> Result<bool, NoMemory> {
+    fn commits_in(&mut self, own: PreparedLabel, cred: u64, slot: u32) -> Result<bool, NoMemory> {
         let is_next = self.seals(cred, slot)?;
         self.replace(own.task, cred)?;
         self.drop_label(own.label);

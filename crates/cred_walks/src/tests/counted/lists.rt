@@ -1,10 +1,10 @@
 //! Tasks, broadcasts, prepared labels and references as plain lists, in which all is found by
 //! search.
-use cred_ids::NoMemory;
+use cred_ids::{NoMemory, limits};
 use std::alloc::Global;
 
 /// How many slots there are.
-pub(crate) const SLOTS: u32 = 256;
+pub(crate) const SLOTS: u32 = limits::SLOTS as u32;
 
 /// What refers to a credential. A task's overrides are numbered from 1, the newest last; a prepared
 /// label refers to its base; and what was given up still refers to its credential until the sweep.
@@ -46,7 +46,7 @@ struct Reference {
 
 /// A live task.
 #[derive(Clone, Copy)]
-pub(crate) struct Task {
+pub(crate) struct LiveTask {
     pub(crate) number: u32,
     pub(crate) process: u32,
 }
@@ -60,7 +60,7 @@ pub(crate) enum Purpose {
 
 /// A prepared label: its task, the slot that it keeps, and what it was last changed for.
 #[derive(Clone, Copy)]
-pub(crate) struct Prepared {
+pub(crate) struct PreparedLabel {
     pub(crate) label: u32,
     pub(crate) task: u32,
     pub(crate) slot: u32,
@@ -80,9 +80,9 @@ pub(crate) struct Waiting {
 #[derive(Drop)]
 pub(crate) struct Lists {
     pub(crate) alloc: Global,
-    pub(crate) tasks: Vec<Task>,
+    pub(crate) tasks: Vec<LiveTask>,
     pub(crate) waiting: Vec<Waiting>,
-    pub(crate) prepared: Vec<Prepared>,
+    pub(crate) prepared: Vec<PreparedLabel>,
     references: Vec<Reference>,
     slots: Vec<u32>,
 }
@@ -174,7 +174,7 @@ impl Lists {
         Ok(others)
     }
 
-    pub(crate) fn label(&self, label: u32) -> Option<Prepared> {
+    pub(crate) fn label(&self, label: u32) -> Option<PreparedLabel> {
         self.prepared.iter().find(|own| own.label == label).copied()
     }
 
@@ -226,7 +226,7 @@ impl Lists {
     }
 
     /// The number was sealed in this slot.
-    pub(crate) fn stands(&self, number: u64, slot: u32) -> bool {
+    pub(crate) fn was_sealed_in(&self, number: u64, slot: u32) -> bool {
         self.slots.get(number as usize).copied() == Some(slot)
     }
 

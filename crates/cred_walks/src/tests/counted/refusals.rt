@@ -8,7 +8,7 @@ const DEPTH: usize = 8;
 /// The answers that refuse an event, named as `cred_event::Answer` has them. They are copied, and
 /// nothing has to be dropped.
 #[derive(Clone, Copy)]
-pub(crate) enum Due {
+pub(crate) enum ExpectedRefusal {
     Ebadf,
     NoTask(u32),
     NoHold(u32),
@@ -23,18 +23,18 @@ pub(crate) enum Due {
 }
 
 /// Refused by this answer where it does not hold.
-fn unless(holds: bool, due: Due) -> Option<Due> {
+fn unless(holds: bool, due: ExpectedRefusal) -> Option<ExpectedRefusal> {
     if holds { None } else { Some(due) }
 }
 
-fn exists(holds: bool, what: Named, number: u32) -> Option<Due> {
-    unless(!holds, Due::Exists { what, number })
+fn exists(holds: bool, what: Named, number: u32) -> Option<ExpectedRefusal> {
+    unless(!holds, ExpectedRefusal::Exists { what, number })
 }
 
 impl Lists {
     /// What the event of a line is refused by; each event has its tests in their order. No script
     /// here reaches the greatest number of tasks, files, holds or labels.
-    pub(crate) fn refusal(&self, line: u32, event: &Event) -> Option<Due> {
+    pub(crate) fn refusal(&self, line: u32, event: &Event) -> Option<ExpectedRefusal> {
         match event {
             Event::Take { label, task, .. } => self.no_task(*task).or(self.has_label(*label)),
             Event::TakeFile { label, fd } => self.ebadf(*fd).or(self.has_label(*label)),
@@ -60,7 +60,10 @@ impl Lists {
                 .or(self.no_hold(*hold))
                 .or(self.has_label(*label)),
             Event::Alter { label, .. } | Event::Abort { label } => {
-                unless(self.has(Owner::Prepared(*label)), Due::NoPrepared(*label))
+                unless(
+                    self.has(Owner::Prepared(*label)),
+                    ExpectedRefusal::NoPrepared(*label),
+                )
             }
             Event::Commit { label } => self.no_commit(*label),
             Event::OpenFile { hold, fd, .. } => {
@@ -73,16 +76,17 @@ impl Lists {
     }
 
     /// The same of the events that concern a task with its overrides and broadcasts.
-    fn task_refusal(&self, line: u32, event: &Event) -> Option<Due> {
+    fn task_refusal(&self, line: u32, event: &Event) -> Option<ExpectedRefusal> {
         match event {
             Event::Init { task, process, .. } => self.open_in(*process).or(self.has_task(*task)),
             Event::Override { task, label } => self
                 .no_task(*task)
                 .or(self.no_override(*task, *label))
-                .or(unless(self.depth(*task) < DEPTH, Due::TooDeep)),
-            Event::Revert { task } => self
-                .no_task(*task)
-                .or(unless(self.depth(*task) != 0, Due::NotOverridden)),
+                .or(unless(self.depth(*task) < DEPTH, ExpectedRefusal::TooDeep)),
+            Event::Revert { task } => self.no_task(*task).or(unless(
+                self.depth(*task) != 0,
+                ExpectedRefusal::NotOverridden,
+            )),
             Event::Begin { task, .. } => self
                 .no_task(*task)
                 .or(self.open_beside(*task))
@@ -94,7 +98,7 @@ impl Lists {
                 .or(self.overridden(*task)),
             Event::Act { broadcast } => unless(
                 self.is_open(*broadcast),
-                Due::NoBroadcast(*broadcast),
+                ExpectedRefusal::NoBroadcast(*broadcast),
             ),
             Event::Spawn { task, child } => self
                 .no_task(*task)
@@ -119,31 +123,31 @@ impl Lists {
         }
     }
 
-    fn no_task(&self, task: u32) -> Option<Due> {
-        unless(self.has(Owner::Task(task)), Due::NoTask(task))
+    fn no_task(&self, task: u32) -> Option<ExpectedRefusal> {
+        unless(self.has(Owner::Task(task)), ExpectedRefusal::NoTask(task))
     }
 
-    fn has_task(&self, task: u32) -> Option<Due> {
+    fn has_task(&self, task: u32) -> Option<ExpectedRefusal> {
         exists(self.has(Owner::Task(task)), Named::Task, task)
     }
 
-    fn has_process(&self, process: u32) -> Option<Due> {
+    fn has_process(&self, process: u32) -> Option<ExpectedRefusal> {
         let holds = self.tasks.iter().any(|task| task.process == process);
         exists(holds, Named::Process, process)
     }
 
-    fn no_hold(&self, label: u32) -> Option<Due> {
-        unless(self.has(Owner::Hold(label)), Due::NoHold(label))
+    fn no_hold(&self, label: u32) -> Option<ExpectedRefusal> {
+        unless(self.has(Owner::Hold(label)), ExpectedRefusal::NoHold(label))
     }
 
     /// A hold or a prepared label has the label already.
-    fn has_label(&self, label: u32) -> Option<Due> {
+    fn has_label(&self, label: u32) -> Option<ExpectedRefusal> {
         let holds = self.has(Owner::Hold(label)) || self.has(Owner::Prepared(label));
         exists(holds, Named::Label, label)
     }
 
-    fn ebadf(&self, fd: u32) -> Option<Due> {
-        unless(self.has(Owner::File(fd)), Due::Ebadf)
+    fn ebadf(&self, fd: u32) -> Option<ExpectedRefusal> {
+        unless(self.has(Owner::File(fd)), ExpectedRefusal::Ebadf)
     }
 
     /// The broadcast of this number is open.
@@ -152,53 +156,53 @@ impl Lists {
     }
 
     /// The task is the caller of an open broadcast.
-    fn busy(&self, task: u32) -> Option<Due> {
+    fn busy(&self, task: u32) -> Option<ExpectedRefusal> {
         let own = self.waiting.iter().find(|own| own.caller == task)?;
-        Some(Due::Busy(own.broadcast))
+        Some(ExpectedRefusal::Busy(own.broadcast))
     }
 
     /// A broadcast is open in the process.
-    fn open_in(&self, process: u32) -> Option<Due> {
+    fn open_in(&self, process: u32) -> Option<ExpectedRefusal> {
         let own = self.waiting.iter().find(|own| own.process == process)?;
-        Some(Due::Busy(own.broadcast))
+        Some(ExpectedRefusal::Busy(own.broadcast))
     }
 
     /// A broadcast is open in the task's process.
-    fn open_beside(&self, task: u32) -> Option<Due> {
+    fn open_beside(&self, task: u32) -> Option<ExpectedRefusal> {
         self.open_in(self.process_of(task)?)
     }
 
-    fn overridden(&self, task: u32) -> Option<Due> {
+    fn overridden(&self, task: u32) -> Option<ExpectedRefusal> {
         let depth = self.depth(task);
         let number = u32::try_from(depth).ok()?;
-        unless(depth == 0, Due::Overridden(number))
+        unless(depth == 0, ExpectedRefusal::Overridden(number))
     }
 
     /// The label is no hold, and the task has prepared nothing under it for access(2).
-    fn no_override(&self, task: u32, label: u32) -> Option<Due> {
+    fn no_override(&self, task: u32, label: u32) -> Option<ExpectedRefusal> {
         let is_for_access = self.label(label).is_some_and(|own| own.task == task
             && own.purpose == Some(Purpose::Access));
         unless(
             is_for_access || self.has(Owner::Hold(label)),
-            Due::NoHold(label),
+            ExpectedRefusal::NoHold(label),
         )
     }
 
-    fn no_commit(&self, label: u32) -> Option<Due> {
+    fn no_commit(&self, label: u32) -> Option<ExpectedRefusal> {
         match self.label(label) {
             Some(own) if own.purpose == Some(Purpose::Commit) => self
                 .no_task(own.task)
                 .or(self.busy(own.task))
                 .or(self.overridden(own.task))
                 .or(self.stale(own.task, label)),
-            _ => Some(Due::NoPrepared(label)),
+            _ => Some(ExpectedRefusal::NoPrepared(label)),
         }
     }
 
     /// The task's current credential isn't the label's base any more.
-    fn stale(&self, task: u32, label: u32) -> Option<Due> {
+    fn stale(&self, task: u32, label: u32) -> Option<ExpectedRefusal> {
         let base = self.number_of(Owner::Prepared(label))?;
         let now = self.number_of(Owner::Task(task))?;
-        unless(now == base, Due::Stale { base, now })
+        unless(now == base, ExpectedRefusal::Stale { base, now })
     }
 }

@@ -1,5 +1,5 @@
 //! What events on tasks and their broadcasts do to the lists.
-use crate::tests::counted::lists::{Lists, Owner, Task, Waiting};
+use crate::tests::counted::lists::{Lists, LiveTask, Owner, Waiting};
 use crate::tests::counted::walk::{is_rule, sealed};
 use cred_event::{AbortCause, Answer, Event};
 use cred_ids::NoMemory;
@@ -22,7 +22,7 @@ impl Lists {
     }
 
     fn start(&mut self, number: u32, process: u32, cred: u64) -> Result<(), NoMemory> {
-        self.tasks.push(Task { number, process })?;
+        self.tasks.push(LiveTask { number, process })?;
         self.refers(Owner::Task(number), cred)
     }
 
@@ -169,7 +169,7 @@ impl Lists {
             return Ok(false);
         };
         let fits = match self.number_of(Owner::Hold(label)) {
-            Some(number) => number == cred && self.stands(cred, slot),
+            Some(number) => number == cred && self.was_sealed_in(cred, slot),
             None => self.seals_for_access(label, cred, slot)?,
         };
         let depth = self.depth(task).saturating_add(1);
@@ -206,6 +206,6 @@ impl Lists {
         };
         let is_own = self.number_of(Owner::Task(task)) == Some(cred);
         self.start(child, process, cred)?;
-        Ok(is_own && self.stands(cred, slot))
+        Ok(is_own && self.was_sealed_in(cred, slot))
     }
 }

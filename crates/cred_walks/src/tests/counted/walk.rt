@@ -1,6 +1,6 @@
 //! What each entry of a journal does to the lists.
 use crate::tests::counted::lists::Lists;
-use crate::tests::counted::refusals::Due;
+use crate::tests::counted::refusals::ExpectedRefusal;
 use cred_event::{Answer, Entry, Event};
 use cred_ids::NoMemory;
 
@@ -18,21 +18,22 @@ pub(crate) fn sealed(answer: &Answer) -> Option<(u64, u32)> {
 }
 
 /// The two are one answer.
-fn are_one(due: Due, answer: &Answer) -> bool {
+fn are_one(due: ExpectedRefusal, answer: &Answer) -> bool {
     match (due, answer) {
-        (Due::Ebadf, Answer::Ebadf)
-        | (Due::NotOverridden, Answer::NotOverridden)
-        | (Due::TooDeep, Answer::TooDeep) => true,
-        (Due::NoTask(due), Answer::NoTask(number))
-        | (Due::NoHold(due), Answer::NoHold(number))
-        | (Due::NoPrepared(due), Answer::NoPrepared(number))
-        | (Due::NoBroadcast(due), Answer::NoBroadcast(number))
-        | (Due::Busy(due), Answer::Busy(number))
-        | (Due::Overridden(due), Answer::Overridden(number)) => due == *number,
-        (Due::Exists { what, number }, Answer::Exists { what: w, number: n }) => {
+        (ExpectedRefusal::Ebadf, Answer::Ebadf)
+        | (ExpectedRefusal::NotOverridden, Answer::NotOverridden)
+        | (ExpectedRefusal::TooDeep, Answer::TooDeep) => true,
+        (ExpectedRefusal::NoTask(due), Answer::NoTask(number))
+        | (ExpectedRefusal::NoHold(due), Answer::NoHold(number))
+        | (ExpectedRefusal::NoPrepared(due), Answer::NoPrepared(number))
+        | (ExpectedRefusal::NoBroadcast(due), Answer::NoBroadcast(number))
+        | (ExpectedRefusal::Busy(due), Answer::Busy(number))
+        | (ExpectedRefusal::Overridden(due), Answer::Overridden(number)) => due == *number,
+        (ExpectedRefusal::Exists { what, number }, Answer::Exists { what: w, number: n }) => {
             what == *w && number == *n
         }
-        (Due::Stale { base, now }, Answer::Stale { base: b, now: n }) => base == *b && now == *n,
+        (ExpectedRefusal::Stale { base, now }, Answer::Stale { base: b, now: n }) => base == *b
+            && now == *n,
         _ => false,
     }
 }
@@ -46,7 +47,7 @@ impl Lists {
             return self.made(&entry.event, entry.line, &entry.answer);
         };
         // A commit that comes too late gives up its label.
-        if let (Due::Stale { .. }, Event::Commit { label }) = (due, &entry.event) {
+        if let (ExpectedRefusal::Stale { .. }, Event::Commit { label }) = (due, &entry.event) {
             self.drop_label(*label);
         }
         Ok(are_one(due, &entry.answer))

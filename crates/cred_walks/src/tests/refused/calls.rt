@@ -11,7 +11,7 @@ use std::test::Fail;
 
 /// An event, by what it names; `Begin` with its line.
 #[derive(Clone, Copy)]
-pub(crate) enum Call {
+pub(crate) enum NamedEvent {
     Init {
         task: u32,
         process: u32,
@@ -64,12 +64,12 @@ const READ: Want = Want {
 };
 
 /// The line that began the call which is open.
-pub(crate) const CAST: u32 = 10;
+pub(crate) const BROADCAST: u32 = 10;
 
 /// The line that the event is one of.
-pub(crate) fn line_of(call: Call) -> u32 {
+pub(crate) fn line_of(call: NamedEvent) -> u32 {
     match call {
-        Call::Begin { line, .. } => line,
+        NamedEvent::Begin { line, .. } => line,
         _ => 11,
     }
 }
@@ -85,46 +85,48 @@ fn first_file(script: &Script) -> Result<u32, Fail>
 }
 
 /// The event in a script, whose first file it names.
-pub(crate) fn event_of(script: &Script, call: Call) -> Result<Event, Fail>
+pub(crate) fn event_of(script: &Script, call: NamedEvent) -> Result<Event, Fail>
     ensures { IfOk result
         (IsEventOf (length script.now.files) script.now.namespaces) }
 {
     let root = Id::new(0).ok_or("root")?;
     let file = first_file(script)?;
     Ok(match call {
-        Call::Init { task, process } => Event::Init {
+        NamedEvent::Init { task, process } => Event::Init {
             task,
             process,
             user: root,
             group: root,
             ns: 0,
         },
-        Call::Begin { task, .. } => Event::Begin {
+        NamedEvent::Begin { task, .. } => Event::Begin {
             task,
             call: IdCall::SetGid(Arg::of(7)),
         },
-        Call::Raw { task } => Event::Raw {
+        NamedEvent::Raw { task } => Event::Raw {
             task,
             call: IdCall::SetGid(Arg::of(7)),
         },
-        Call::Act => Event::Act { broadcast: CAST },
+        NamedEvent::Act => Event::Act {
+            broadcast: BROADCAST,
+        },
         _ => on_label(file, call),
     })
 }
 
 /// The same of an event on labels.
-fn on_label(file: u32, call: Call) -> Event
+fn on_label(file: u32, call: NamedEvent) -> Event
     ensures { (files : ℕ) (declared : List Namespace) → file < files
         → IsEventOf files declared result }
 {
     match call {
-        Call::Take { label, task } => Event::Take {
+        NamedEvent::Take { label, task } => Event::Take {
             label,
             task,
             side: Side::Subjective,
         },
-        Call::Release { label } => Event::Release { label },
-        Call::Signal {
+        NamedEvent::Release { label } => Event::Release { label },
+        NamedEvent::Signal {
             from,
             hold,
             to,
@@ -135,7 +137,7 @@ fn on_label(file: u32, call: Call) -> Event
             to,
             target,
         },
-        Call::Open { hold, fd } => Event::OpenFile {
+        NamedEvent::Open { hold, fd } => Event::OpenFile {
             hold,
             file,
             want: READ,
@@ -146,28 +148,28 @@ fn on_label(file: u32, call: Call) -> Event
 }
 
 /// The same of a call on the file, or of a sweep.
-fn on_file(file: u32, call: Call) -> Event
+fn on_file(file: u32, call: NamedEvent) -> Event
     ensures { (files : ℕ) (declared : List Namespace) → file < files
         → IsEventOf files declared result }
 {
     match call {
-        Call::Chown { hold } => Event::Chown {
+        NamedEvent::Chown { hold } => Event::Chown {
             hold,
             file,
             owner: Arg::of(0),
             group: Arg::Keep,
         },
-        Call::Chmod { hold } => Event::Chmod {
+        NamedEvent::Chmod { hold } => Event::Chmod {
             hold,
             file,
             mode: 0o4755,
         },
-        Call::ClearAttr { hold } => Event::SetAttr {
+        NamedEvent::ClearAttr { hold } => Event::SetAttr {
             hold,
             file,
             attr: None,
         },
-        Call::Stat { hold } => Event::Stat { hold, file },
+        NamedEvent::Stat { hold } => Event::Stat { hold, file },
         _ => Event::Sweep,
     }
 }

@@ -6,9 +6,9 @@ use Rattle.cred_model.specs.Course as model
 use Rattle.cred_model.specs.Journal.{replay}
 use Rattle.cred_script.specs.Lines.{line_at}
 use Rattle.cred_course.specs.Cursor.{MovesOnTo}
-use Rattle.cred_tables.specs.Kept.{Words}
+use Rattle.cred_tables.specs.Kept.{SharedWords}
 use Rattle.cred_tables.specs.Out.{AreHome, AreOut}
-use Rattle.cred_tables.proofs.Outs.{out_like}
+use Rattle.cred_tables.proofs.TokensOfLabels.{out_like}
 use Rattle.cred_book.specs.Book.{Recorded, answer_of}
 use Rattle.cred_book.proofs.Entered.{all_grown, follows_sound, replays, enters, out_after}
 use Rattle.cred_book.proofs.book.Book.enter.Goals as goal
@@ -31,7 +31,7 @@ invariant_of-self-2 c =
     (c.push_reserved.ensures.items ∙ ap (λ (js : List Entry). js ++ entry ∷ []) c.in-Ok.ensures.items) in (
       enters c.self.inside.script c.self.inside.state.state c.step.new.self.state (c.self.inside.earlier ++ c.self.inside.kept.items) (c.self.inside.earlier ++ c.push_reserved.new.self.items) entry
           c.self.invariant.0 c.in-Ok-step.ensures.ok longer,
-      subst (λ (w : Words). AreOut (replay c.self.inside.script (c.self.inside.earlier ++ c.push_reserved.new.self.items)) w.out) (sym c.step.ensures.words)
+      subst (λ (w : SharedWords). AreOut (replay c.self.inside.script (c.self.inside.earlier ++ c.push_reserved.new.self.items)) w.out) (sym c.step.ensures.words)
           (out_after c.self.inside.script (c.self.inside.earlier ++ c.self.inside.kept.items) (c.self.inside.earlier ++ c.push_reserved.new.self.items) entry c.self.inside.state.words.out
           (subst (λ (r : Recorded). AreHome c.args.event r.words.out) (sym c.self.view_is) c.requires.home) c.self.invariant.1 longer),
     )

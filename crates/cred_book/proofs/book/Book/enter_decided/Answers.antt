@@ -13,12 +13,12 @@ use Rattle.cred_course.specs.Cursor.{MovesOnTo}
 use Rattle.cred_work.specs.Decisions.{IsRight, work_event}
 use Rattle.cred_model.specs.Named.{event_files}
 use Rattle.cred_model.specs.State.{info_of}
-use Rattle.cred_work.specs.declared.lent.Lent.{Lent}
+use Rattle.cred_work.specs.declared.pending.Pending.{Pending}
 use Rattle.cred_work.specs.Work.{Work}
 use Rattle.cred_tables.specs.Out.{AreBack}
-use Rattle.cred_tables.proofs.Outs.{out_like}
+use Rattle.cred_tables.proofs.TokensOfLabels.{out_like}
 use Rattle.cred_state.specs.TokensOut.{AreTaken, IsChain, loans_of}
-use Rattle.cred_book.specs.Book.{Recorded, answer_of, infos_in}
+use Rattle.cred_book.specs.Book.{Recorded, answer_of, inodes_in}
 use Rattle.cred_book.proofs.Entered.{all_grown, enters, follows_sound, out_left, replays}
 use Rattle.cred_book.proofs.Finished.{left_there, lent_waits}
 use Rattle.cred_book.proofs.book.Book.enter_decided.Goals as goal
@@ -35,21 +35,21 @@ pub invariant_of-self-in-Ok-enter : goal.invariant_of-self-in-Ok-enter
 invariant_of-self-in-Ok-enter c =
     let b = c.self.inside in
     let w : Work = c.args.work in
-    let apart = c.apart-asked.ensures in
+    let apart = c.into_parts-asked.ensures in
     let line : c.line-line.result ≡ w.line = c.line-line.ensures ∙ ap (λ (x : Work). x.line) (sym apart) in
     let entered : c.event-event.result ≡ work_event w.lent = c.event-event.ensures ∙ ap (λ (x : Work). work_event x.lent) (sym apart) in
-    let lent : c.apart-asked.result.1 ≡ w.lent = ap (λ (x : Work). x.lent) (sym apart) in
+    let lent : c.into_parts-asked.result.1 ≡ w.lent = ap (λ (x : Work). x.lent) (sym apart) in
     let taken : AreTaken (loans_of w.lent) b.state.words.out c.enter.new.self.words.out
-    = subst (λ (l : Lent). AreTaken (loans_of l) b.state.words.out c.enter.new.self.words.out) lent c.in-Ok-enter.ensures.taken in
-    let its : work_event c.apart-asked.result.1 ≡ work_event w.lent = ap work_event lent in
+    = subst (λ (l : Pending). AreTaken (loans_of l) b.state.words.out c.enter.new.self.words.out) lent c.in-Ok-enter.ensures.taken in
+    let its : work_event c.into_parts-asked.result.1 ≡ work_event w.lent = ap work_event lent in
     let chain =
-    subst (λ (l : Lent). IsChain b.script l w.chain) (sym lent)
+    subst (λ (l : Pending). IsChain b.script l w.chain) (sym lent)
     (subst (λ (r : Recorded). IsChain r.script w.lent w.chain) (sym c.self.view_is) c.requires.of.chain) in
-    let file : w.file ≡ info_of b.state.state.infos (event_files (work_event w.lent))
+    let file : w.file ≡ info_of b.state.state.inodes (event_files (work_event w.lent))
     = c.requires.of.file
-    ∙ ap (λ (r : Recorded). info_of (infos_in r) (event_files (work_event w.lent))) (sym c.self.view_is)
-    ∙ ap (λ (is : List File). info_of is (event_files (work_event w.lent))) (sym c.self.invariant.0.0.infos) in
-    let right = subst (λ (l : Lent). IsRight (info_of b.state.state.infos (event_files (work_event l))) w.chain l) (sym lent)
+    ∙ ap (λ (r : Recorded). info_of (inodes_in r) (event_files (work_event w.lent))) (sym c.self.view_is)
+    ∙ ap (λ (is : List File). info_of is (event_files (work_event w.lent))) (sym c.self.invariant.0.0.inodes) in
+    let right = subst (λ (l : Pending). IsRight (info_of b.state.state.inodes (event_files (work_event l))) w.chain l) (sym lent)
     (subst (λ f. IsRight f w.chain w.lent) file c.requires.decided.right) in
     let ok : GivesLike b.state.state (done b.script b.state.state w.line (work_event w.lent)) c.in-Ok-enter.answer c.enter.new.self.state
     = subst (λ (e : Event). GivesLike b.state.state (done b.script b.state.state w.line e) c.in-Ok-enter.answer c.enter.new.self.state) its
@@ -71,23 +71,23 @@ pub returns-in-Ok-enter-clause-entered : goal.returns-in-Ok-enter-clause-entered
 returns-in-Ok-enter-clause-entered c =
     let b = c.self.inside in
     let w : Work = c.args.work in
-    let apart = c.apart-asked.ensures in
+    let apart = c.into_parts-asked.ensures in
     let line : c.line-line.result ≡ w.line = c.line-line.ensures ∙ ap (λ (x : Work). x.line) (sym apart) in
     let entered : c.event-event.result ≡ work_event w.lent = c.event-event.ensures ∙ ap (λ (x : Work). work_event x.lent) (sym apart) in
-    let lent : c.apart-asked.result.1 ≡ w.lent = ap (λ (x : Work). x.lent) (sym apart) in
+    let lent : c.into_parts-asked.result.1 ≡ w.lent = ap (λ (x : Work). x.lent) (sym apart) in
     let taken : AreTaken (loans_of w.lent) b.state.words.out c.enter.new.self.words.out
-    = subst (λ (l : Lent). AreTaken (loans_of l) b.state.words.out c.enter.new.self.words.out) lent c.in-Ok-enter.ensures.taken in
+    = subst (λ (l : Pending). AreTaken (loans_of l) b.state.words.out c.enter.new.self.words.out) lent c.in-Ok-enter.ensures.taken in
     let back : AreBack (loans_of w.lent) b.state.words c.enter.new.self.words
-    = subst (λ (l : Lent). AreBack (loans_of l) b.state.words c.enter.new.self.words) lent c.in-Ok-enter.ensures.back in
-    let its : work_event c.apart-asked.result.1 ≡ work_event w.lent = ap work_event lent in
+    = subst (λ (l : Pending). AreBack (loans_of l) b.state.words c.enter.new.self.words) lent c.in-Ok-enter.ensures.back in
+    let its : work_event c.into_parts-asked.result.1 ≡ work_event w.lent = ap work_event lent in
     let chain =
-    subst (λ (l : Lent). IsChain b.script l w.chain) (sym lent)
+    subst (λ (l : Pending). IsChain b.script l w.chain) (sym lent)
     (subst (λ (r : Recorded). IsChain r.script w.lent w.chain) (sym c.self.view_is) c.requires.of.chain) in
-    let file : w.file ≡ info_of b.state.state.infos (event_files (work_event w.lent))
+    let file : w.file ≡ info_of b.state.state.inodes (event_files (work_event w.lent))
     = c.requires.of.file
-    ∙ ap (λ (r : Recorded). info_of (infos_in r) (event_files (work_event w.lent))) (sym c.self.view_is)
-    ∙ ap (λ (is : List File). info_of is (event_files (work_event w.lent))) (sym c.self.invariant.0.0.infos) in
-    let right = subst (λ (l : Lent). IsRight (info_of b.state.state.infos (event_files (work_event l))) w.chain l) (sym lent)
+    ∙ ap (λ (r : Recorded). info_of (inodes_in r) (event_files (work_event w.lent))) (sym c.self.view_is)
+    ∙ ap (λ (is : List File). info_of is (event_files (work_event w.lent))) (sym c.self.invariant.0.0.inodes) in
+    let right = subst (λ (l : Pending). IsRight (info_of b.state.state.inodes (event_files (work_event l))) w.chain l) (sym lent)
     (subst (λ f. IsRight f w.chain w.lent) file c.requires.decided.right) in
     let ok : GivesLike b.state.state (done b.script b.state.state w.line (work_event w.lent)) c.in-Ok-enter.answer c.enter.new.self.state
     = subst (λ (e : Event). GivesLike b.state.state (done b.script b.state.state w.line e) c.in-Ok-enter.answer c.enter.new.self.state) its
@@ -120,17 +120,17 @@ pub returns-in-Ok-enter-clause-passes : goal.returns-in-Ok-enter-clause-passes
 returns-in-Ok-enter-clause-passes c =
     let b = c.self.inside in
     let w : Work = c.args.work in
-    let apart = c.apart-asked.ensures in
-    let lent : c.apart-asked.result.1 ≡ w.lent = ap (λ (x : Work). x.lent) (sym apart) in
-    let its : work_event c.apart-asked.result.1 ≡ work_event w.lent = ap work_event lent in
+    let apart = c.into_parts-asked.ensures in
+    let lent : c.into_parts-asked.result.1 ≡ w.lent = ap (λ (x : Work). x.lent) (sym apart) in
+    let its : work_event c.into_parts-asked.result.1 ≡ work_event w.lent = ap work_event lent in
     let chain =
-    subst (λ (l : Lent). IsChain b.script l w.chain) (sym lent)
+    subst (λ (l : Pending). IsChain b.script l w.chain) (sym lent)
     (subst (λ (r : Recorded). IsChain r.script w.lent w.chain) (sym c.self.view_is) c.requires.of.chain) in
-    let file : w.file ≡ info_of b.state.state.infos (event_files (work_event w.lent))
+    let file : w.file ≡ info_of b.state.state.inodes (event_files (work_event w.lent))
     = c.requires.of.file
-    ∙ ap (λ (r : Recorded). info_of (infos_in r) (event_files (work_event w.lent))) (sym c.self.view_is)
-    ∙ ap (λ (is : List File). info_of is (event_files (work_event w.lent))) (sym c.self.invariant.0.0.infos) in
-    let right = subst (λ (l : Lent). IsRight (info_of b.state.state.infos (event_files (work_event l))) w.chain l) (sym lent)
+    ∙ ap (λ (r : Recorded). info_of (inodes_in r) (event_files (work_event w.lent))) (sym c.self.view_is)
+    ∙ ap (λ (is : List File). info_of is (event_files (work_event w.lent))) (sym c.self.invariant.0.0.inodes) in
+    let right = subst (λ (l : Pending). IsRight (info_of b.state.state.inodes (event_files (work_event l))) w.chain l) (sym lent)
     (subst (λ f. IsRight f w.chain w.lent) file c.requires.decided.right) in
     let ok : GivesLike b.state.state (done b.script b.state.state w.line (work_event w.lent)) c.in-Ok-enter.answer c.enter.new.self.state
     = subst (λ (e : Event). GivesLike b.state.state (done b.script b.state.state w.line e) c.in-Ok-enter.answer c.enter.new.self.state) its

@@ -2,9 +2,9 @@ use Rattle.std.proofs.Common.{◌∙◌, ◌++◌, ◌∷◌, [], List, sym, ap,
 use Rattle.cred_event.specs.declared.answer.Answer.{Answer}
 use Rattle.cred_event.specs.declared.entry.Entry.{Entry}
 use Rattle.cred_model.specs.Journal.{replay}
-use Rattle.cred_tables.specs.Kept.{Words}
+use Rattle.cred_tables.specs.Kept.{SharedWords}
 use Rattle.cred_tables.specs.Out.{AreHome, AreOut}
-use Rattle.cred_tables.proofs.Outs.{out_like}
+use Rattle.cred_tables.proofs.TokensOfLabels.{out_like}
 use Rattle.cred_book.specs.Book.{Recorded, answer_of}
 use Rattle.cred_book.proofs.Entered.{all_grown, follows_sound, replays, enters, left_out, out_after}
 use Rattle.cred_book.proofs.book.Book.event.Goals as goal
@@ -27,7 +27,7 @@ invariant_of-self-2 c =
     (c.push_reserved.ensures.items ∙ ap (λ (js : List Entry). js ++ entry ∷ []) c.in-Ok.ensures.items) in (
       enters c.self.inside.script c.self.inside.state.state c.step.new.self.state (c.self.inside.earlier ++ c.self.inside.kept.items) (c.self.inside.earlier ++ c.push_reserved.new.self.items) entry
           c.self.invariant.0 c.in-Ok-step.ensures.ok longer,
-      subst (λ (w : Words). AreOut (replay c.self.inside.script (c.self.inside.earlier ++ c.push_reserved.new.self.items)) w.out) (sym c.step.ensures.words)
+      subst (λ (w : SharedWords). AreOut (replay c.self.inside.script (c.self.inside.earlier ++ c.push_reserved.new.self.items)) w.out) (sym c.step.ensures.words)
           (out_after c.self.inside.script (c.self.inside.earlier ++ c.self.inside.kept.items) (c.self.inside.earlier ++ c.push_reserved.new.self.items) entry c.self.inside.state.words.out
           (subst (λ (r : Recorded). AreHome c.args.event r.words.out) (sym c.self.view_is) c.requires.home) c.self.invariant.1 longer),
     )
@@ -38,7 +38,7 @@ invariant_of-self-in_default-copy_answer c =
     rw c.in-Ok.ensures.items (
       left_out c.self.inside.script c.self.inside.state.state c.step.new.self.state (c.self.inside.earlier ++ c.self.inside.kept.items) entry
           c.self.invariant.0 c.in-Ok-step.ensures.ok c.in_default-copy_answer.ensures.refusal,
-      subst (λ (w : Words). AreOut (replay c.self.inside.script (c.self.inside.earlier ++ c.self.inside.kept.items)) w.out) (sym c.step.ensures.words) c.self.invariant.1,
+      subst (λ (w : SharedWords). AreOut (replay c.self.inside.script (c.self.inside.earlier ++ c.self.inside.kept.items)) w.out) (sym c.step.ensures.words) c.self.invariant.1,
     )
 
 pub returns-clause-entered : goal.returns-clause-entered
@@ -70,4 +70,4 @@ returns-clause-answer c =
     c.in-Ok-copy_answer.ensures.equal ∙ sym made.answers ∙ ap (λ (r : Recorded). answer_of r c.args.line c.args.event) c.self.view_is
 
 pub returns-in_default-copy_answer-clause-in_place : goal.returns-in_default-copy_answer-clause-in_place
-returns-in_default-copy_answer-clause-in_place c = c.stands-in_default-copy_answer.ensures
+returns-in_default-copy_answer-clause-in_place c = c.check_in_place-in_default-copy_answer.ensures

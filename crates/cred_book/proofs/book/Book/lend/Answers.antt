@@ -3,15 +3,15 @@ use Rattle.cred_model.specs.State.{State}
 use Rattle.cred_model.specs.Journal.{replay}
 use Rattle.cred_model.specs.Like.{IsLike}
 use Rattle.cred_model.proofs.Likes.{like_trans}
-use Rattle.cred_work.specs.declared.lent.Lent.{Lent}
+use Rattle.cred_work.specs.declared.pending.Pending.{Pending}
 use Rattle.cred_tables.specs.Kept.{Standing}
 use Rattle.cred_tables.specs.Out.{AreHome, AreOut, tokens_in}
-use Rattle.cred_tables.proofs.Outs.{out_like, tokens_like}
+use Rattle.cred_tables.proofs.TokensOfLabels.{out_like, tokens_like}
 use Rattle.cred_state.specs.TokensOut.{loans_of, with_lent}
 use Rattle.cred_state.proofs.TokensOut.{like_lent}
 use Rattle.cred_book.specs.Book.{Recorded}
 use Rattle.cred_book.proofs.Entered.{follows_sound}
-use Rattle.cred_book.proofs.Lent.{out_lent, words_lent}
+use Rattle.cred_book.proofs.LentTokens.{out_lent, words_lent}
 use Rattle.cred_book.proofs.book.Book.lend.Goals as goal
 
 pub lend-requires-clause-sound : goal.lend-requires-clause-sound
@@ -29,7 +29,7 @@ pub invariant_of-self-2 : goal.invariant_of-self-2
 invariant_of-self-2 c =
     let b = c.self.inside in
     let s : State = replay b.script (b.earlier ++ b.kept.items) in
-    let lent : Lent = c.in_ok-lent.lent in
+    let lent : Pending = c.in_ok-lent.lent in
     let is : c.lend.new.self ≡ with_lent b.state lent = c.in_ok-lent.ensures.lent in
     let sound = follows_sound b.script b.state.state (b.earlier ++ b.kept.items) c.self.invariant.0 in
     let tokens : loans_of lent ≡ tokens_in b.state.state c.args.event.now = c.in_ok-lent.ensures.tokens in (

@@ -3,7 +3,7 @@ use Rattle.cred_model.specs.State.{opening}
 use Rattle.cred_model.specs.Journal.{replay}
 use Rattle.cred_model.proofs.Likes.{like_self}
 use Rattle.cred_tables.specs.Out.{AreOut}
-use Rattle.cred_tables.proofs.Outs.{has_out}
+use Rattle.cred_tables.proofs.TokensOfLabels.{has_out}
 use Rattle.cred_book.specs.Book.{Recorded}
 use Rattle.cred_book.proofs.Cursors.{no_work, nothing_run}
 use Rattle.cred_book.proofs.book.Book.new.Goals as goal

@@ -12,15 +12,15 @@ use Rattle.cred_course.specs.Cursor.{IsOfLine, MovesOnTo}
 use Rattle.cred_course.specs.LaneCursors.{due_of}
 use Rattle.cred_course.proofs.Turns.{lane_has_place}
 use Rattle.cred_work.specs.Work.{Work}
-use Rattle.cred_tables.specs.Kept.{Words}
+use Rattle.cred_tables.specs.Kept.{SharedWords}
 use Rattle.cred_tables.specs.Out.{AreHome, needs_tokens}
-use Rattle.cred_book.specs.Book.{Recorded, answer_of, infos_in}
+use Rattle.cred_book.specs.Book.{Recorded, answer_of, inodes_in}
 use Rattle.cred_book.specs.Cursor.{BookStands, moved_on}
 use Rattle.cred_book.specs.Works.{GoesOut, IsHanded, with_work}
 use Rattle.cred_book.proofs.Cursors.{due_counts, due_found, due_goes_on, due_makes, due_of_line, lane_has_out, none_counted, none_made}
 use Rattle.cred_book.proofs.Handed.{EntersMore, HandsOut, enters_more, hands_out, made_event, put_in}
-use Rattle.cred_book.proofs.Lent.{next_home}
-use Rattle.cred_book.proofs.Nexts.{event_of, next_is}
+use Rattle.cred_book.proofs.LentTokens.{next_home}
+use Rattle.cred_book.proofs.NextEvents.{event_of, next_is}
 use Rattle.cred_book.proofs.Places.{all_home}
 use Rattle.cred_book.proofs.Works.{GoesOn}
 use Rattle.cred_book.proofs.book.Book.next.Goals as goal
@@ -38,7 +38,7 @@ returns-in_default c =
       made = none_made book c.args.lane c.requires.stands none;
       falls = λ more. cc;
       counts = none_counted book c.args.lane c.requires.stands none;
-      in_place = c.stands.ensures;
+      in_place = c.check_in_place.ensures;
       home = all_home book c.requires.stands;
       files = λ other. refl;
       err = tt;
@@ -108,9 +108,9 @@ returns-in-Some-3 c =
       made = r.made;
       falls = λ more. cc;
       counts = r.counts;
-      in_place = c.stands-in-Some-3.ensures;
+      in_place = c.check_in_place-in-Some-3.ensures;
       home = all_home after r.stands;
-      files = λ other. ap infos_in goes.lent;
+      files = λ other. ap inodes_in goes.lent;
       err = tt;
     }
 
@@ -221,12 +221,12 @@ returns c =
     record {
       script = m.script;
       earlier = ap (λ (b : Recorded). b.earlier) (sym same);
-      cells = ap (λ (w : Words). w.id) m.words;
+      cells = ap (λ (w : SharedWords). w.id) m.words;
       stands = m.stands;
       made = m.made;
       falls = λ more. m.falls;
       counts = m.counts;
-      in_place = c.stands-2.ensures;
+      in_place = c.check_in_place-2.ensures;
       home = all_home after m.stands;
       files = m.files;
       err = tt;

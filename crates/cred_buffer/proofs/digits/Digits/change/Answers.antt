@@ -1,5 +1,5 @@
 use Rattle.std.proofs.Common.{◌≡◌, ◌-◌, decimal, arith, ap, ◌∙◌}
-use Rattle.cred_buffer.proofs.LastDigit.{one_more}
+use Rattle.cred_buffer.proofs.Decimal.{one_more}
 use Rattle.cred_buffer.proofs.digits.Digits.change.Goals as goal
 
 pub invariant_of-self : goal.invariant_of-self

@@ -1,5 +1,5 @@
 use Rattle.std.proofs.Common.{arith}
-use Rattle.cred_buffer.proofs.LastDigit.{one_digit, last_after}
+use Rattle.cred_buffer.proofs.Decimal.{one_digit, last_after}
 use Rattle.cred_buffer.proofs.digits.Digits.write_by_tens.Goals as goal
 
 pub returns-then-number-lt10-clause-written : goal.returns-then-number-lt10-clause-written

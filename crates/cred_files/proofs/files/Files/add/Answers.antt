@@ -1,7 +1,7 @@
 use Rattle.std.proofs.Common.{◌<◌, ◌∙◌, is_some, length}
 use Rattle.cred_ids.specs.Limits.{OPEN_FILES}
 use Rattle.indexmap.proofs.CallerLemmas.{insert_entry-new}
-use Rattle.cred_files.specs.declared.open_file.File.{File}
+use Rattle.cred_files.specs.declared.file_description.FileDescription.{FileDescription}
 use Rattle.cred_files.specs.Open.{open_files}
 use Rattle.cred_files.proofs.Kept.{is_new, opened, still_open}
 use Rattle.cred_files.proofs.files.Files.add.Goals as goal
@@ -15,7 +15,7 @@ invariant_of-self-2 c =
 pub returns-clause-ok : goal.returns-clause-ok
 returns-clause-ok c =
     let es = c.self.inside.files.entries in
-    let file : File = record { opener = c.args.opener; file = c.args.file } in
+    let file : FileDescription = record { opener = c.args.opener; file = c.args.file } in
     let new = rw (← c.self.view_is) at c.requires.new in
     let is = c.in_ok-insert.ensures.entries ∙ insert_entry-new _ c.self.inside.files c.args.fd file (is_new c.args.fd es new) in
     rw (← c.self.view_is) (opened c.args.fd file es c.insert.new.self.entries is)

@@ -16,8 +16,8 @@ load_sealed-requires c =
 pub invariant_of-self : goal.invariant_of-self
 invariant_of-self c = master_again _ _ c.load_sealed.ensures.same.1 c.self.invariant
 
-pub known_ns-requires : goal.known_ns-requires
-known_ns-requires c =
+pub ns_from_valid-requires : goal.ns_from_valid-requires
+ns_from_valid-requires c =
     let s = c.requires.sealed in
     let x = knows c.self.inside.inner.ledger c.args.slot s.0 c.self.invariant.1 (ap (λ m. slice_get m.slots c.args.slot) c.self.view_is ∙ s.1) in
     (words_at c.self.inside.inner.ledger.slots c.args.slot, x.are, c.load_sealed.ensures.words)
@@ -25,5 +25,5 @@ known_ns-requires c =
 pub returns-clause-ns : goal.returns-clause-ns
 returns-clause-ns c d at =
     let x = knows c.self.inside.inner.ledger c.args.slot d c.self.invariant.1 (ap (λ m. slice_get m.slots c.args.slot) c.self.view_is ∙ at) in
-    let e = c.known_ns.ensures (words_at c.self.inside.inner.ledger.slots c.args.slot) x.are c.load_sealed.ensures.words in
+    let e = c.ns_from_valid.ensures (words_at c.self.inside.inner.ledger.slots c.args.slot) x.are c.load_sealed.ensures.words in
     e ∙ ap (λ c. c.ns) x.cred

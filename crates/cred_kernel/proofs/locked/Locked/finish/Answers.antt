@@ -51,7 +51,7 @@ invariant_of-self g c =
     (sym (c.after_finish-turn-inside.ensures ∙ ap (λ (e : ℕ). after_finish numbers e step) c.ended.ensures))
     (moved_back book after lane numbers step was c.finish-step.ensures.counts same) in
     let not_setup : lane ≢ 0 = λ zero. omega (arith, zero, c.turn.invariant.is_lane.0) in
-    locked_after g.K.Name.script g.K.Name.roll g.K.Name.cells g.K.Name.infos book after c.self.inside.roll c.take-2.new.self c.lend.new.self c.in-Some.pass lane
+    locked_after g.K.Name.script g.K.Name.roll g.K.Name.cells g.K.Name.inodes book after c.self.inside.roll c.take-2.new.self c.lend.new.self c.in-Some.pass lane
     numbers now
     c.self.invariant moved c.finish-step.ensures.script c.finish-step.ensures.cells (c.finish-step.ensures.files not_setup) c.finish-step.ensures.stands back
     c.take-2.ensures.lane c.take-2.ensures.roll c.lend.ensures.roll

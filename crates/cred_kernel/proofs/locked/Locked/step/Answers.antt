@@ -44,7 +44,7 @@ invariant_of-self g c =
     (moved book after lane numbers (next book.script book.journal lane) step was home c.next-step.ensures.script
     c.next-step.ensures.made c.next-step.ensures.counts c.next-step.ensures.err) in
     let not_setup : lane ≢ 0 = λ zero. omega (arith, zero, c.turn.invariant.is_lane.0) in
-    locked_after g.K.Name.script g.K.Name.roll g.K.Name.cells g.K.Name.infos book after c.self.inside.roll c.take-2.new.self c.lend.new.self c.in-Some.pass lane
+    locked_after g.K.Name.script g.K.Name.roll g.K.Name.cells g.K.Name.inodes book after c.self.inside.roll c.take-2.new.self c.lend.new.self c.in-Some.pass lane
     numbers now
     c.self.invariant its c.next-step.ensures.script c.next-step.ensures.cells (c.next-step.ensures.files not_setup) c.next-step.ensures.stands back
     c.take-2.ensures.lane c.take-2.ensures.roll c.lend.ensures.roll
@@ -59,7 +59,7 @@ returns-clause-step g c =
     let step = c.next-step.result in
     let script = g.K.Name.script in
     let cells = g.K.Name.cells in
-    let infos = g.K.Name.infos in
+    let inodes = g.K.Name.inodes in
     let back : c.in-Some.pass ≡ pass g.K.Name.roll lane numbers
     = is_back c.take.result c.in-Some.pass _ c.in-Some.is (c.take.ensures.value ∙ c.turn.invariant.pass_is) in
     let was : numbers ≡ numbers_in book lane
@@ -68,10 +68,10 @@ returns-clause-step g c =
     let home = ap (λ (t : SeenTurn). t.numbers.out) c.turn.view_is ∙ c.requires.out in
     let own = c.next-step.ensures.cells ∙ c.self.invariant.cells_are in
     let not_setup : lane ≢ 0 = λ zero. omega (arith, zero, c.turn.invariant.is_lane.0) in
-    let files = c.next-step.ensures.files not_setup ∙ c.self.invariant.infos_are in
-    let made = advanced infos cells book after lane numbers (next book.script book.journal lane) step was home c.next-step.ensures.script own files
+    let files = c.next-step.ensures.files not_setup ∙ c.self.invariant.inodes_are in
+    let made = advanced inodes cells book after lane numbers (next book.script book.journal lane) step was home c.next-step.ensures.script own files
     c.self.invariant.set_up c.next-step.ensures.made c.next-step.ensures.counts c.next-step.ensures.err in
-    subst (λ (t : SeenTurn). IfOk step (Advanced script infos cells t (seen lane now))) c.turn.view_is
-    (subst (λ (s : Script). IfOk step (Advanced s infos cells (seen lane numbers) (seen lane now))) c.self.invariant.script_is
-    (subst (λ (n : LaneNumbers). IfOk step (Advanced book.script infos cells (seen lane numbers) (seen lane n)))
+    subst (λ (t : SeenTurn). IfOk step (Advanced script inodes cells t (seen lane now))) c.turn.view_is
+    (subst (λ (s : Script). IfOk step (Advanced s inodes cells (seen lane numbers) (seen lane now))) c.self.invariant.script_is
+    (subst (λ (n : LaneNumbers). IfOk step (Advanced book.script inodes cells (seen lane numbers) (seen lane n)))
     (sym (c.after_step-turn-inside.ensures ∙ ap (λ (e : ℕ). after_step numbers e step) c.ended.ensures)) made))

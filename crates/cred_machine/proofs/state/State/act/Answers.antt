@@ -175,11 +175,11 @@ returns-clause-ok c =
     rw (← c.self.view_is)
     (steps_there s sound c.args.line task c.in-Some.broadcast_at b o old next c.in-Ok.cred
     c.in-Ok.ensures (seen_state c.self-2.inside) c.set_current_at.new.self
-    c.act.new.broadcasts.items _ c.differs-other.result c.args.room.swept c.in-Some-slot.slot
+    c.act.new.broadcasts.items _ c.differs-ids_changed.result c.args.room.swept c.in-Some-slot.slot
     c.others-left.result c.in_ok-cred.cred c.in-Some-place.task_at
     (rw (← c.self.view_is) at (sym c.requires.slot ∙ c.in-Some-slot.is))
     (rw (← c.self.view_is) at c.requires.swept)
     (rw (← c.broadcast.view_is) at c.others-left.ensures)
     (rw (← c.self.view_is) at c.in_ok-cred.ensures.number)
     c.in-Some-place.ensures.place leads c.set_current_at.ensures c.act.ensures
-    c.differs-other.ensures c.renew.ensures)
+    c.differs-ids_changed.ensures c.renew.ensures)

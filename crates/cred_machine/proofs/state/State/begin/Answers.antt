@@ -39,7 +39,7 @@ returns-clause-ok c =
     rw (← c.self.view_is)
     (same_answer _ _ c.open.result c.open.new.self
     (begins s c.args.line c.args.task c.args.call.now o old can c.in-Ok.cred c.in_ok-copy.field-0 c.in_ok-waiting.waiting.items
-    c.differs-other.result c.in-Ok.ensures c.in_ok-copy.ensures.equal c.in_ok-waiting.ensures.others c.differs-other.ensures)
+    c.differs-ids_changed.result c.in-Ok.ensures c.in_ok-copy.ensures.equal c.in_ok-waiting.ensures.others c.differs-ids_changed.ensures)
     (rw (c.new-broadcast.ensures, ← c.self.view_is) at c.open.ensures.ok))
 
 pub open-requires-clause-caller : goal.open-requires-clause-caller

@@ -41,4 +41,4 @@ returns-in-Err-clause-ok c =
 pub replace-requires : goal.replace-requires
 replace-requires c =
     let s = seen_state c.self.inside in
-    slice_get_within s.infos c.args.file c.in-Some-file.old.now (sym c.in-Some-file.ensures)
+    slice_get_within s.inodes c.args.file c.in-Some-file.old.now (sym c.in-Some-file.ensures)

@@ -15,7 +15,7 @@ returns-clause-state c =
       | in_default w ↦ rw (w.in_default.is, w.matches-is) refl
     ] in
     rw (← c.self.view_is)
-    (process_ended s c.args.process _ _ _ _ _ c.match-matches.matches c.end.ensures c.drop_broadcast.ensures c.gone.ensures c.in_ok-defer_left.ensures.ok
+    (process_ended s c.args.process _ _ _ _ _ c.match-matches.matches c.end.ensures c.drop_broadcast.ensures c.remove.ensures c.in_ok-defer_left.ensures.ok
     refl c.args.cause swept)
 
 pub returns-in_err-defer_left-clause-err : goal.returns-in_err-defer_left-clause-err

@@ -20,4 +20,4 @@ returns-clause-ok c =
     (exit_leads s c.args.task o _ _ _ _ _ _ (rw (← c.owner.view_is) at (sym c.in-Some.ensures))
     (busy_at s _ c.args.task _ c.deref.ensures.value c.in_default-begun_by.ensures)
     (rw (← c.owner.view_is) at c.in_default-overridden.ensures) c.end.ensures c.leave.ensures c.in_ok-defer_left.ensures.ok refl
-    c.leave-2.ensures c.has_other-other.ensures)
+    c.leave-2.ensures c.has_other-has_other.ensures)

@@ -66,7 +66,7 @@ returns-in_err-begin_process-clause-err c =
     let s = seen_state c.self.inside in
     rw (← c.self.view_is)
     (on_err _
-    (ap (λ (l : List Task). record s { tasks = l; dumpable = c.begin_process.new.dump }) c.in_err-begin_process.ensures.same_tasks
+    (ap (λ (l : List Task). record s { tasks = l; dumpable = c.begin_process.new.flags }) c.in_err-begin_process.ensures.same_tasks
     ∙ ap (λ (l : List ProcessFlag). record s { dumpable = l }) c.in_err-begin_process.ensures.same_flags))
 
 pub returns-in_default-clause-ok : goal.returns-in_default-clause-ok

@@ -46,6 +46,6 @@ returns-in_err-enter-clause-err c =
     let s = seen_state c.self.inside in
     rw (← c.self.view_is)
     (on_err _
-    (ap (λ (l : List Task). record s { tasks = l; creds = c.reserve.new.self.list; dumpable = c.enter.new.dump }) c.in_err-enter.ensures.same_tasks
+    (ap (λ (l : List Task). record s { tasks = l; creds = c.reserve.new.self.list; dumpable = c.enter.new.flags }) c.in_err-enter.ensures.same_tasks
     ∙ ap (λ (l : List ProcessFlag). record s { creds = c.reserve.new.self.list; dumpable = l }) c.in_err-enter.ensures.same_flags
     ∙ ap (λ (l : List SealedCred). record s { creds = l }) c.in_ok-reserve.ensures.list))

@@ -13,7 +13,7 @@ use Rattle.cred_machine.proofs.state.State.open.Goals as goal
 pub returns-in_default-clause-ok : goal.returns-in_default-clause-ok
 returns-in_default-clause-ok c =
     rw (c.table_full.ensures.answer, c.table_full.ensures.state, ← c.self.view_is)
-    (in_none (seen_state c.self.inside) table_full (λ r at. begun r c.args.broadcast c.args.old c.args.cred c.args.other at)
+    (in_none (seen_state c.self.inside) table_full (λ r at. begun r c.args.broadcast c.args.old c.args.cred c.args.ids_changed at)
     (rw (← c.self.view_is) at (sym c.in_ok-slot.ensures.slot ∙ c.in_default.is)))
 
 pub returns-in_err-open_broadcast-clause-err : goal.returns-in_err-open_broadcast-clause-err
@@ -24,7 +24,7 @@ returns-in_err-open_broadcast-clause-err c =
 pub returns-clause-ok : goal.returns-clause-ok
 returns-clause-ok c =
     rw (← c.self.view_is, ← c.broadcast.view_is)
-    (opens (seen_state c.self.inside) (seen_broadcast c.broadcast.inside) c.args.old _ c.args.other c.in-Some.slot c.in_ok-slot.field-0.swept c.in-Ok.number
+    (opens (seen_state c.self.inside) (seen_broadcast c.broadcast.inside) c.args.old _ c.args.ids_changed c.in-Some.slot c.in_ok-slot.field-0.swept c.in-Ok.number
     c.waiters-left.result _
     (seen_state c.self-2.inside) _
     (rw (← c.self.view_is) at (sym c.in_ok-slot.ensures.slot ∙ c.in-Some.is)) (rw (← c.self.view_is) at c.in_ok-slot.ensures.swept)

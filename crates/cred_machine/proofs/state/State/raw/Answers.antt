@@ -35,5 +35,5 @@ returns-clause-ok c =
     c.in_default-open_in.ensures c.in_default-overridden.ensures in
     rw (← c.self.view_is)
     (same_answer _ _ c.replace_alone.result c.replace_alone.new.self
-    (calls s c.args.task c.args.call.now o old can c.in-Ok.cred c.differs-other.result c.in-Ok.ensures c.differs-other.ensures)
+    (calls s c.args.task c.args.call.now o old can c.in-Ok.cred c.differs-ids_changed.result c.in-Ok.ensures c.differs-ids_changed.ensures)
     (rw (← c.self.view_is) at c.replace_alone.ensures.ok))

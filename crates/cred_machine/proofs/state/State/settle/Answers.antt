@@ -21,12 +21,12 @@ returns-clause-ok c =
     let is : IsChanged s c.args.place own owner last = record { there = read.there; changed = changed; lives = read.lives } in
     rw (← c.self.view_is)
     (commits s c.args.place own owner last is c.ends_with-ending.result c.committed_by-answer.result c.seal-number.result c.count-ended.result _ _ _ _ _ _ _ _
-    c.differs_from-other.result _ _
+    c.differs_from-ids_changed.result _ _
     (rw (← c.self.view_is) at c.requires.current) c.ends_with-ending.ensures c.seal-number.ensures.number c.in_ok-make_room.ensures.list c.count-ended.ensures
     c.committed_by-answer.ensures c.set_current.ensures c.end.ensures c.drop_with.ensures c.remove.ensures.items
     (c.deref.ensures.value ∙ c.in_ok-extend_from_slice.ensures.items
     ∙ ap (λ (ns : List ℕ). ns ++ owner.current ∷ own.base ∷ []) c.in_ok-numbers.ensures)
-    c.in_ok-make_room.ensures.ok c.commit.ensures c.differs_from-other.ensures c.in_ok-cred.ensures c.seal-number.ensures.sealed)
+    c.in_ok-make_room.ensures.ok c.commit.ensures c.differs_from-ids_changed.ensures c.in_ok-cred.ensures c.seal-number.ensures.sealed)
 
 pub returns-in_err-numbers-clause-err : goal.returns-in_err-numbers-clause-err
 returns-in_err-numbers-clause-err c = on_err _ refl

@@ -1,6 +1,6 @@
 use Rattle.std.proofs.Common.{ℕ, List, length, ap, ◌∙◌, sym, subst}
 use Rattle.cred_record.specs.Words.{credential_in, IsCredential}
-use Rattle.cred_record.proofs.Halves.{head-is}
+use Rattle.cred_record.proofs.HalfWords.{head-is}
 use Rattle.cred_packed.proofs.NoGroups.{groups-none, head-count, head-whole, head-words}
 use Rattle.cred_packed.proofs.heads.Head.of.Goals as goal
 

@@ -1,5 +1,5 @@
 use Rattle.std.proofs.Common.{◌≡◌, ◌-◌, ◌+◌, length, arith, refl}
-use Rattle.cred_report.proofs.LastDigit.{past_put}
+use Rattle.cred_report.proofs.Decimal.{past_put}
 use Rattle.cred_report.proofs.tens.Tens.put.Goals as goal
 
 pub returns-clause-written : goal.returns-clause-written

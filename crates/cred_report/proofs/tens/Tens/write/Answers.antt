@@ -1,5 +1,5 @@
 use Rattle.std.proofs.Common.{◌≡◌, ◌/◌, arith, sym, ◌∙◌}
-use Rattle.cred_report.proofs.LastDigit.{one_digit, more_digits}
+use Rattle.cred_report.proofs.Decimal.{one_digit, more_digits}
 use Rattle.cred_report.proofs.tens.Tens.write.Goals as goal
 use Rattle.cred_report.proofs.tens.Tens.write.Goals.{then-self-tens, else-self-tens}
 

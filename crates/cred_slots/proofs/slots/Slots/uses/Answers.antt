@@ -1,4 +1,5 @@
 use Rattle.std.proofs.Common.{◌<◌, arith, sym}
+use Rattle.cred_ids.specs.Limits.{SLOTS}
 use Rattle.cred_slots.specs.Rows.{unused}
 use Rattle.cred_slots.proofs.Sound.{row_fits}
 use Rattle.cred_slots.proofs.Uses.{uses_here, uses_beyond, one_number}
@@ -9,14 +10,14 @@ overflow_add-result c =
     let s = c.self.inside in
     let found = (rw c.deref.ensures.value at c.in-Some.ensures.lookup).3 in
     let row = found.1 unused in
-    let within : c.args.slot < 256 = omega (arith, found.0, c.self.invariant.all_rows) in
+    let within : c.args.slot < SLOTS = omega (arith, found.0, c.self.invariant.all_rows) in
     rw row (omega (arith, row_fits c.self.invariant c.args.slot within, s.deferred.small))
 
 pub returns-in-Some-clause-uses : goal.returns-in-Some-clause-uses
 returns-in-Some-clause-uses c =
     let found = (rw c.deref.ensures.value at c.in-Some.ensures.lookup).3 in
     let row = found.1 unused in
-    let within : c.args.slot < 256 = omega (arith, found.0, c.self.invariant.all_rows) in
+    let within : c.args.slot < SLOTS = omega (arith, found.0, c.self.invariant.all_rows) in
     rw (← c.self.view_is, row) (uses_here c.self.invariant c.args.slot within)
 
 pub returns-in-Some-clause-one_number : goal.returns-in-Some-clause-one_number

@@ -3,7 +3,7 @@ use Rattle.cred_event.specs.declared.answer.AbortCause.TheVariants.{Full}
 use Rattle.cred_model.specs.State.{Task, task_of}
 use Rattle.cred_model.specs.Dumpable.{renewed}
 use Rattle.cred_model.specs.Broadcasts.{waits_no_more}
-use Rattle.cred_cast.specs.Broadcasts.{MakesOf}
+use Rattle.cred_broadcasts.specs.Broadcasts.{MakesOf}
 use Rattle.cred_state.proofs.Seen.{seen_parts, seen_state}
 use Rattle.cred_state.specs.Replacements.{replacement}
 use Rattle.cred_hold.specs.Tokens.{Mastered}
@@ -13,7 +13,7 @@ use Rattle.cred_state.proofs.Acts.{act_sealed}
 use Rattle.cred_tables.proofs.Bags.{bag-keeps}
 use Rattle.cred_model.proofs.Places.{if_some}
 use Rattle.cred_tables.proofs.Sealing.{current-held, drops, none_spare, seals_spare}
-use Rattle.cred_tables.proofs.Outs.{free_alone, free_apart}
+use Rattle.cred_tables.proofs.TokensOfLabels.{free_alone, free_apart}
 use Rattle.cred_tables.proofs.Puts.{put_free}
 use Rattle.cred_state.proofs.Reading.{found-place, found-sealed, found-slot, found-there, is_found, some_spare, stands_apart}
 use Rattle.cred_state.proofs.Standing.{current-in_use}
@@ -143,7 +143,7 @@ invariant_of-self-2 c =
     (found-place c.self.invariant.0 c.args.next.now (is_found s.creds (λ (t : Task). t.current) (task_of s c.args.next.task) _ found.has)
     (current-in_use s c.args.next.task _ found.has)) in
     let flags = c.renew_in.ensures next.owner next.lives
-    ∙ ap (renewed t.dump next.owner.process) rule.differs_so in
+    ∙ ap (renewed t.flags next.owner.process) rule.differs_so in
     let broadcasts = c.act_at-left.ensures.broadcasts ∙ ap (waits_no_more c.args.next.task) c.keep_step.ensures.broadcasts in
     rw (set_there next _ found.there _ c.set_current_at.ensures, made, broadcasts, flags) (
       act_kept c.self.invariant.0 c.args.number c.args.next.task next _ found.has new rule.made c.put_over.ensures.long
@@ -172,7 +172,7 @@ returns-clause-ok c =
     if_some _ (slice_get s.broadcasts c.args.next.broadcast) next.broadcast (broadcast_there next c.args.next.broadcast found.under)
     (rw c.keep_step.ensures.broadcasts at c.act_at-left.ensures.left) in
     let flags = c.renew_in.ensures next.owner next.lives
-    ∙ ap (renewed t.dump next.owner.process) rule.differs_so in
+    ∙ ap (renewed t.flags next.owner.process) rule.differs_so in
     let broadcasts = c.act_at-left.ensures.broadcasts ∙ ap (waits_no_more c.args.next.task) c.keep_step.ensures.broadcasts in
     rw (← c.self.view_is, set_there next _ found.there _ c.set_current_at.ensures, made, broadcasts, flags)
     (act_sealed c.self.invariant.0 c.args.number c.args.next.task next _ found.has new rule.made c.put_over.ensures.long

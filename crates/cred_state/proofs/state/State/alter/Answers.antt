@@ -79,7 +79,7 @@ returns-in-Ok-clause-ok c =
     let were = were_altered s c.args.cells.now label change base c.in-Some.writer its.kept c.requires.sound c.requires.out c.requires.home its.standing in
     let named : base.label ≡ label = ap (λ (h : Held). h.label) its.kept.base_is in
     let chain = chain_is c.args.cells.now script s.state label change base c.in-Some.writer c.change_ns-ns.result its.kept c.change_ns-ns.ensures.ns in
-    let made = rw (c.executed_file-file.ensures, c.infos.ensures, c.chain_of-chain.ensures) at c.in-Ok.ensures.made in
+    let made = rw (c.executed_file-file.ensures, c.inodes.ensures, c.chain_of-chain.ensures) at c.in-Ok.ensures.made in
     let ok = rw c.in-Ok.ensures.base at c.enter_alter.ensures.made in
     let ok = rw (its.lent, named) at (ok script _ (chain, made)) in
     does_like script (with_kept s base c.in-Some.writer).state s.state 0 (Alter label change) c.enter_alter.result c.enter_alter.new.self.state (lent_like were)

@@ -3,7 +3,7 @@ use Rattle.std.specs.Prelude.{Contains}
 use Rattle.std.proofs.lemmas.List.Elements.{Contains-push}
 use Rattle.cred_event.specs.declared.event.Event.TheVariants.{Ask}
 use Rattle.cred_hold.specs.Tokens.{Held}
-use Rattle.cred_work.specs.declared.lent.Lent.TheVariants.{Asking}
+use Rattle.cred_work.specs.declared.pending.Pending.TheVariants.{Asking}
 use Rattle.cred_state.specs.TokensOut.{with_lent}
 use Rattle.cred_state.proofs.Asking.{were_asked}
 use Rattle.cred_state.proofs.Deciding.{back_one, lent_are, lent_sound}

@@ -15,10 +15,10 @@ read_parts-parts-requires-clause-found c =
 pub read_parts-parts-requires-clause-used : goal.read_parts-parts-requires-clause-used
 read_parts-parts-requires-clause-used c = current-in_use c.args.self.now.state c.args.task _ c.in-Ok.ensures.has
 
-pub begin_with-requires-clause-other : goal.begin_with-requires-clause-other
-begin_with-requires-clause-other c =
+pub begin_with-requires-clause-ids_changed : goal.begin_with-requires-clause-ids_changed
+begin_with-requires-clause-ids_changed c =
     rw c.read_parts-parts.ensures.same
-    (ids_differ _ _ c.apply_parts.new.own _ _ c.differs_by-other.ensures c.read_parts-parts.ensures.parts.0)
+    (ids_differ _ _ c.apply_parts.new.own _ _ c.differs_by-ids_changed.ensures c.read_parts-parts.ensures.parts.0)
 
 pub returns-in-Err-apply_parts-clause-ok : goal.returns-in-Err-apply_parts-clause-ok
 returns-in-Err-apply_parts-clause-ok c =

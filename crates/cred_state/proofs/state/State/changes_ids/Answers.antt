@@ -20,19 +20,19 @@ pub read_parts-old-requires-clause-used : goal.read_parts-old-requires-clause-us
 read_parts-old-requires-clause-used c =
     current-in_use c.args.self.now.state c.args.task _ (sym c.in-Some-current.ensures)
 
-pub returns-in_default-clause-other : goal.returns-in_default-clause-other
-returns-in_default-clause-other c = λ last is.
+pub returns-in_default-clause-ids_changed : goal.returns-in_default-clause-ids_changed
+returns-in_default-clause-ids_changed c = λ last is.
     let none : ◌≡◌ {A = Option (Ids4 × Ids4)} None (Some (last.cred.uid, last.cred.gid))
     = c.in_default.ensures
     ∙ ap (option_map {U = Ids4 × Ids4} (λ (x : Changed). (x.cred.uid, x.cred.gid))) is in
     cc
 
-pub returns-in_default-current-clause-other : goal.returns-in_default-current-clause-other
-returns-in_default-current-clause-other c = λ last is.
+pub returns-in_default-current-clause-ids_changed : goal.returns-in_default-current-clause-ids_changed
+returns-in_default-current-clause-ids_changed c = λ last is.
     differs_none c.args.self.now.state c.args.task last (sym c.in_default-current.ensures)
 
-pub returns-clause-other : goal.returns-clause-other
-returns-clause-other c = λ last is.
+pub returns-clause-ids_changed : goal.returns-clause-ids_changed
+returns-clause-ids_changed c = λ last is.
     let s = c.args.self.now.state in
     let now = seen_in s.creds c.in-Some-current.now in
     let ids = ids_are last (changed_of s.prepared c.args.label) _ _ c.in-Some.ensures is in

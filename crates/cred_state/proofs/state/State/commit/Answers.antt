@@ -51,23 +51,23 @@ returns-then-now-base-clause-ok c =
 
 pub commit_ready-requires-clause-ready : goal.commit_ready-requires-clause-ready
 commit_ready-requires-clause-ready c =
-    rw (c.changes_ids-other.ensures.same, ← c.self.view_is, c.if-now-base.false) c.in-Some.ensures
+    rw (c.changes_ids-ids_changed.ensures.same, ← c.self.view_is, c.if-now-base.false) c.in-Some.ensures
 
 pub commit_ready-requires-clause-home : goal.commit_ready-requires-clause-home
-commit_ready-requires-clause-home c = rw c.changes_ids-other.ensures.same c.requires.home
+commit_ready-requires-clause-home c = rw c.changes_ids-ids_changed.ensures.same c.requires.home
 
 pub commit_ready-requires-clause-current : goal.commit_ready-requires-clause-current
 commit_ready-requires-clause-current c =
-    rw (c.changes_ids-other.ensures.same, ← c.self.view_is) c.in-Some-current.ensures
+    rw (c.changes_ids-ids_changed.ensures.same, ← c.self.view_is) c.in-Some-current.ensures
 
 pub commit_ready-requires-clause-idle : goal.commit_ready-requires-clause-idle
 commit_ready-requires-clause-idle c =
-    rw c.changes_ids-other.ensures.same c.in_default-begun.ensures
+    rw c.changes_ids-ids_changed.ensures.same c.in_default-begun.ensures
 
 pub commit_ready-requires-clause-allowed : goal.commit_ready-requires-clause-allowed
 commit_ready-requires-clause-allowed c =
-    rw c.changes_ids-other.ensures.same c.in_default-overridden.ensures
+    rw c.changes_ids-ids_changed.ensures.same c.in_default-overridden.ensures
 
-pub commit_ready-requires-clause-other : goal.commit_ready-requires-clause-other
-commit_ready-requires-clause-other c =
-    rw c.changes_ids-other.ensures.same c.changes_ids-other.ensures.other
+pub commit_ready-requires-clause-ids_changed : goal.commit_ready-requires-clause-ids_changed
+commit_ready-requires-clause-ids_changed c =
+    rw c.changes_ids-ids_changed.ensures.same c.changes_ids-ids_changed.ensures.ids_changed

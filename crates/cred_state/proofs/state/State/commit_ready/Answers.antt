@@ -122,9 +122,9 @@ invariant_of-self-2 c =
     (find-at (λ (p : Prepared). p.label == c.args.label) t.prepared gives.gives.place _
     gives.gives.found gives.gives.there) in
     let flags = flags_are s c.args.task c.unwrap-process.result e.owner c.finish-last.result.1 _ _
-    c.args.other c.commit.new.self c.commit.ensures
+    c.args.ids_changed c.commit.new.self c.commit.ensures
     (ap (λ (x : Changed). x.change) c.last.view_is) (ap (λ (x : Changed). x.gains) c.last.view_is)
-    process ((rw (← c.self.view_is) at c.requires.other) c.finish-last.result.1 changed) e.lives in
+    process ((rw (← c.self.view_is) at c.requires.ids_changed) c.finish-last.result.1 changed) e.lives in
     rw (tasks, broadcasts, gives.gives.left, flags) (
       commit_kept c.self.invariant.0 gives.gives.place _ gives.gives.there c.args.change now own less c.seal_kept-number.new.slots
           c.finish-last.result.1 words seals sound.tasks sound.slots.own,
@@ -169,9 +169,9 @@ returns-clause-ok c =
     (find-at (λ (p : Prepared). p.label == c.args.label) t.prepared gives.gives.place _
     gives.gives.found gives.gives.there) in
     let flags = flags_are s c.args.task c.unwrap-process.result e.owner c.finish-last.result.1 _ _
-    c.args.other c.commit.new.self c.commit.ensures
+    c.args.ids_changed c.commit.new.self c.commit.ensures
     (ap (λ (x : Changed). x.change) c.last.view_is) (ap (λ (x : Changed). x.gains) c.last.view_is)
-    process ((rw (← c.self.view_is) at c.requires.other) c.finish-last.result.1 changed) e.lives in
+    process ((rw (← c.self.view_is) at c.requires.ids_changed) c.finish-last.result.1 changed) e.lives in
     rw (← c.self.view_is, tasks, broadcasts, gives.gives.left, flags, c.committed_by.ensures, gains, change)
     (commit_done c.self.invariant.0 gives.gives.place _ gives.gives.there c.args.change now own less c.seal_kept-number.new.slots
     c.finish-last.result.1 words seals sound.tasks sound.slots.own c.args.label (length c.items-2.result.now) gives.gives.found refl

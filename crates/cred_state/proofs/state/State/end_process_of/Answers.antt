@@ -23,7 +23,7 @@ invariant_of-self-2 c =
     let t = c.self.inside in
     let gone = c.in_ok-ended.ensures.ended in
     let all = ends_all c.args.cause t.slots c.sweep_at.ensures (c.items.ensures ∙ gone.gave_up) c.drop_all.ensures.held c.drop_all.ensures.table in
-    rw (gone.left, c.dropped.ensures, c.gone.ensures)
+    rw (gone.left, c.drop_in.ensures, c.remove.ensures)
     (process_kept c.self.invariant.0 c.args.cause c.unwrap-process.result c.drop_all.new.slots all, c.self.invariant.1)
 
 pub returns-clause-state : goal.returns-clause-state
@@ -31,6 +31,6 @@ returns-clause-state c =
     let t = c.self.inside in
     let gone = c.in_ok-ended.ensures.ended in
     let all = ends_all c.args.cause t.slots c.sweep_at.ensures (c.items.ensures ∙ gone.gave_up) c.drop_all.ensures.held c.drop_all.ensures.table in
-    rw (← c.self.view_is, gone.left, c.dropped.ensures, c.gone.ensures)
+    rw (← c.self.view_is, gone.left, c.drop_in.ensures, c.remove.ensures)
     (for_owner (task_in t.tasks c.args.task) (c.process_of.ensures) c.unwrap-process.ensures
     (λ broadcast of. process_ended c.self.invariant.0 c.args.cause c.unwrap-process.result c.drop_all.new.slots all broadcast of))

@@ -6,7 +6,7 @@ use Rattle.cred_model.specs.Slots.{kept}
 use Rattle.cred_model.specs.State.{held_by, info_of}
 use Rattle.cred_model.proofs.Likes.{does_same}
 use Rattle.cred_hold.specs.Tokens.{loan}
-use Rattle.cred_tables.proofs.Back.{has_taken, taken_has}
+use Rattle.cred_tables.proofs.Returned.{has_taken, taken_has}
 use Rattle.cred_state.specs.TokensOut.{hold_loan}
 use Rattle.cred_state.proofs.Entering.{both_right, held_right, one_right, taken_same}
 use Rattle.cred_state.proofs.Returns.{apart_taken, held_own, holds_apart}
@@ -38,7 +38,7 @@ returns-in-Some-clause-ok c = λ script line chain is right.
     let r = rw (a.is, c.in-Some.is) at right in
     let has = has_taken out (hold_loan hold) c.take_hold_back.new.self.words.out c.take_hold_back.ensures.taken in
     let own = held_own s out c.requires.sound c.requires.out hold.label hold.slot hold.cred has in
-    let told = one_right (λ x. reply (info_of s.infos (query_files a.query)) x a.query) c.in-Some.told (held_by s hold.label) hold.cred own r in
+    let told = one_right (λ x. reply (info_of s.inodes (query_files a.query)) x a.query) c.in-Some.told (held_by s hold.label) hold.cred own r in
     let asked = rw (c.take_hold_back.ensures.state, c.label-label.ensures) at c.enter_ask.ensures in
     rw (a.is, c.take_hold_back.ensures.state) (does_same _ _ _ (asked a.query told))
 
@@ -52,7 +52,7 @@ returns-in-Ok-clause-ok c = λ script line chain is right.
     let has = has_taken out (hold_loan hold) c.enter_open.new.self.words.out c.in-Ok.ensures.taken in
     let own = held_own s out c.requires.sound c.requires.out hold.label hold.slot hold.cred has in
     let may =
-    held_right (λ m x. checked x (info_of s.infos (a.file ∷ [])) a.want ≡ (if m then Done else Eacces)) a.may (held_by s hold.label) hold.cred r own in
+    held_right (λ m x. checked x (info_of s.inodes (a.file ∷ [])) a.want ≡ (if m then Done else Eacces)) a.may (held_by s hold.label) hold.cred r own in
     rw a.is (does_same _ _ _ (c.in-Ok.ensures.ok a.want may))
 
 pub returns-in-Some-may-clause-ok : goal.returns-in-Some-may-clause-ok

@@ -1,6 +1,6 @@
 use Rattle.cred_model.specs.Slots.{kept}
 use Rattle.cred_state.specs.TokensOut.{hold_loan}
-use Rattle.cred_tables.proofs.Back.{has_taken, taken_has}
+use Rattle.cred_tables.proofs.Returned.{has_taken, taken_has}
 use Rattle.cred_state.proofs.Returns.{apart_taken, base_own, holds_apart}
 use Rattle.cred_state.proofs.state.State.enter_alter.Goals as goal
 

@@ -2,7 +2,7 @@ use Rattle.std.proofs.Common.{ℕ, List, None, map, ap, ◌∙◌, subst}
 use Rattle.cred_model.specs.State.{Prepared}
 use Rattle.cred_words.specs.Lists.{Has}
 use Rattle.cred_hold.specs.Tokens.{loan}
-use Rattle.cred_tables.proofs.Back.{has_taken}
+use Rattle.cred_tables.proofs.Returned.{has_taken}
 use Rattle.cred_tables.proofs.InUse.{kept-altered}
 use Rattle.cred_tables.proofs.Stored.{does_made}
 use Rattle.cred_state.proofs.Entering.{alter_made, alter_refused}

@@ -14,9 +14,9 @@ pub invariant_of-self-2 : goal.invariant_of-self-2
 invariant_of-self-2 c =
     let t = c.self.inside.slots in
     let all = drops_all t {m = t.spare} refl (c.items.ensures ∙ c.in_ok-numbers.ensures.numbers) c.drop_all.ensures.held c.drop_all.ensures.table in
-    rw (c.in_ok-numbers.ensures.tasks, c.gone.ensures) (
+    rw (c.in_ok-numbers.ensures.tasks, c.remove_task.ensures) (
       kept_beside (ended_kept c.self.invariant.0 (is_task c.args.task) c.drop_all.new.slots all)
-          (waits_no_more c.args.task c.self.inside.broadcasts) c.exit_in.new.dump,
+          (waits_no_more c.args.task c.self.inside.broadcasts) c.exit_in.new.flags,
       c.self.invariant.1,
     )
 
@@ -28,5 +28,5 @@ returns-clause-ok c =
     let lives = alive_is c.self.inside.tasks c.args.task (sym c.alive.ensures ∙ c.if-not-alive.false) in
     let all = drops_all t {m = t.spare} refl (c.items.ensures ∙ c.in_ok-numbers.ensures.numbers) c.drop_all.ensures.held c.drop_all.ensures.table in
     let flags = c.in_ok-numbers.ensures.flags lives.0 lives.1 in
-    rw (← c.self.view_is, c.in_ok-numbers.ensures.tasks, c.gone.ensures, flags)
+    rw (← c.self.view_is, c.in_ok-numbers.ensures.tasks, c.remove_task.ensures, flags)
     (exit_done c.self.invariant.0 c.args.task c.drop_all.new.slots all lives.0 lives.1 idle own)

@@ -58,7 +58,7 @@ invariant_of-self-2 c =
           (kept_child c.self.invariant.0 c.fork_in.new.tasks c.args.child c.args.process u.owner grown
           u.number c.in_ok-reserve.ensures.ok c.add.ensures.held c.add.ensures.table
           (current-held c.self.invariant.0 c.args.task _ may.0.has) t.broadcasts)
-          t.broadcasts c.fork_in.new.dump,
+          t.broadcasts c.fork_in.new.flags,
       c.self.invariant.1,
     )
 

@@ -2,7 +2,7 @@ use Rattle.std.specs.Prelude.{IfSome, slice_get}
 use Rattle.std.proofs.Common.{subst}
 use Rattle.cred_record.specs.Credential.{Credential}
 use Rattle.cred_model.specs.State.{Broadcast, Task, task_of}
-use Rattle.cred_cast.specs.Broadcasts.{MakesOf}
+use Rattle.cred_broadcasts.specs.Broadcasts.{MakesOf}
 use Rattle.cred_state.proofs.Acts.{there_once}
 use Rattle.cred_state.proofs.Reading.{found-place, found-sealed, is_found}
 use Rattle.cred_state.proofs.Seen.{seen_state}

@@ -1,7 +1,7 @@
 use Rattle.std.proofs.Common.{◌∷◌, [], is_some, sym, ap, ◌∙◌}
 use Rattle.cred_hold.specs.Tokens.{Held}
 use Rattle.cred_state.specs.TokensOut.{hold_loan}
-use Rattle.cred_tables.proofs.Outs.{hold_token_is}
+use Rattle.cred_tables.proofs.TokensOfLabels.{hold_token_is}
 use Rattle.cred_state.proofs.LentForEvent.{no_hold, some_hold}
 use Rattle.cred_state.proofs.Standing.{held-in_use}
 use Rattle.cred_state.proofs.state.State.lend_hold.Goals as goal

@@ -8,8 +8,8 @@ use Rattle.cred_model.proofs.Lists.{found, All-unmap}
 use Rattle.cred_hold.specs.Tokens.{loan}
 use Rattle.cred_tables.specs.Kept.{creds_in, cred_under, seen_in}
 use Rattle.cred_tables.specs.Prepared.{prepared_as}
-use Rattle.cred_tables.proofs.Back.{cleared_creds}
-use Rattle.cred_tables.proofs.Outs.{base_apart, kept_alone, kept_spare}
+use Rattle.cred_tables.proofs.Returned.{cleared_creds}
+use Rattle.cred_tables.proofs.TokensOfLabels.{base_apart, kept_alone, kept_spare}
 use Rattle.cred_tables.proofs.Puts.{put_written}
 use Rattle.cred_state.proofs.Seen.{seen_state}
 use Rattle.cred_state.proofs.LentForEvent.{no_base}

@@ -1,7 +1,7 @@
 use Rattle.std.proofs.Common.{ℕ, Some, sym, ap, ◌∙◌}
 use Rattle.cred_model.specs.Broadcasts.{not_busy}
 use Rattle.cred_model.proofs.Numbers.{current_is}
-use Rattle.cred_cast.specs.Broadcasts.{broadcast_under, broadcast_within}
+use Rattle.cred_broadcasts.specs.Broadcasts.{broadcast_under, broadcast_within}
 use Rattle.cred_state.proofs.Seen.{seen_state}
 use Rattle.cred_state.proofs.Begins.{begin_without, begin_busy, begin_exists, begin_overridden}
 use Rattle.cred_state.proofs.Broadcasts.{busy_by, none_open, some_open}

@@ -1,7 +1,7 @@
 use Rattle.std.proofs.Common.{ℕ, Some, sym, ap, ◌∙◌}
 use Rattle.cred_model.specs.Broadcasts.{not_busy}
 use Rattle.cred_model.proofs.Numbers.{current_is}
-use Rattle.cred_cast.specs.Broadcasts.{broadcast_within}
+use Rattle.cred_broadcasts.specs.Broadcasts.{broadcast_within}
 use Rattle.cred_state.proofs.Seen.{seen_state}
 use Rattle.cred_state.proofs.Raw.{raw_without, raw_busy, raw_overridden}
 use Rattle.cred_state.proofs.Broadcasts.{busy_by, none_open}

@@ -1,6 +1,6 @@
 use Rattle.std.proofs.Common.{◌==◌, ◌∙◌, ap, slice_get, sym}
 use Rattle.std.specs.Option.{option_and_then}
-use Rattle.cred_cast.proofs.Left.{none_there, placed_there, placed_within}
+use Rattle.cred_broadcasts.proofs.Left.{none_there, placed_there, placed_within}
 use Rattle.cred_model.specs.State.{Broadcast}
 use Rattle.cred_model.proofs.Places.{if_some}
 use Rattle.cred_state.proofs.Seen.{seen_state}

@@ -4,7 +4,7 @@ use Rattle.std.proofs.lemmas.List.Elements.{Contains-push}
 use Rattle.std.proofs.lemmas.Result.{err_from_is_err_and}
 use Rattle.cred_event.specs.declared.event.Event.TheVariants.{OpenFile}
 use Rattle.cred_hold.specs.Tokens.{Held}
-use Rattle.cred_work.specs.declared.lent.Lent.TheVariants.{Opening}
+use Rattle.cred_work.specs.declared.pending.Pending.TheVariants.{Opening}
 use Rattle.cred_tables.specs.Kept.{Standing}
 use Rattle.cred_state.specs.TokensOut.{with_lent}
 use Rattle.cred_state.proofs.Asking.{were_opened}

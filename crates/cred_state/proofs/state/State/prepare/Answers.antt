@@ -4,7 +4,7 @@ use Rattle.cred_slots.proofs.Tables.{held_is_referred}
 use Rattle.cred_model.specs.State.{Prepared}
 use Rattle.cred_model.proofs.Likes.{does_same}
 use Rattle.cred_tables.proofs.Cleared.{free_within}
-use Rattle.cred_tables.proofs.Outs.{free_alone, free_apart}
+use Rattle.cred_tables.proofs.TokensOfLabels.{free_alone, free_apart}
 use Rattle.cred_tables.proofs.Puts.{put_more}
 use Rattle.cred_state.proofs.Seen.{seen_parts}
 use Rattle.cred_state.proofs.Reading.{some_spare}

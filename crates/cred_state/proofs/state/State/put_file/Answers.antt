@@ -1,12 +1,12 @@
 use Rattle.cred_state.proofs.Seen.{seen_state}
-use Rattle.cred_state.proofs.FileCalls.{by_value, file_changed, file_refused, kept_infos}
+use Rattle.cred_state.proofs.FileCalls.{by_value, file_changed, file_refused, kept_inodes}
 use Rattle.cred_state.proofs.state.State.put_file.Goals as goal
 
 pub replace-requires : goal.replace-requires
 replace-requires c = rw (← c.self.view_is) at c.requires.there
 
 pub invariant_of-self : goal.invariant_of-self
-invariant_of-self c = (kept_infos c.self.invariant.0 c.replace.new.self, c.self.invariant.1)
+invariant_of-self c = (kept_inodes c.self.invariant.0 c.replace.new.self, c.self.invariant.1)
 
 pub returns-in-Ok-clause-ok : goal.returns-in-Ok-clause-ok
 returns-in-Ok-clause-ok c = λ hold rule cred file held there by.

@@ -16,10 +16,10 @@ pub read_parts-parts-requires-clause-used : goal.read_parts-parts-requires-claus
 read_parts-parts-requires-clause-used c =
     current-in_use c.args.self.now.state c.args.task _ c.in-Ok.ensures.has
 
-pub raw_with-requires-clause-other : goal.raw_with-requires-clause-other
-raw_with-requires-clause-other c =
+pub raw_with-requires-clause-ids_changed : goal.raw_with-requires-clause-ids_changed
+raw_with-requires-clause-ids_changed c =
     rw c.read_parts-parts.ensures.same
-    (ids_differ _ _ c.apply_parts.new.own _ _ c.differs_by-other.ensures
+    (ids_differ _ _ c.apply_parts.new.own _ _ c.differs_by-ids_changed.ensures
     c.read_parts-parts.ensures.parts.0)
 
 pub returns-in-Ok-apply_parts-clause-ok : goal.returns-in-Ok-apply_parts-clause-ok

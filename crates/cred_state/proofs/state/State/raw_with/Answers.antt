@@ -7,7 +7,7 @@ use Rattle.cred_tables.proofs.Sealing.{none_spare, roomy_spare, seals_spare}
 use Rattle.cred_state.proofs.Seen.{seen_parts, seen_state}
 use Rattle.cred_state.proofs.Begins.{replaced_kept}
 use Rattle.cred_state.proofs.Raw.{raw_full, raw_sealed}
-use Rattle.cred_tables.proofs.Outs.{free_apart}
+use Rattle.cred_tables.proofs.TokensOfLabels.{free_apart}
 use Rattle.cred_tables.proofs.Puts.{put_free}
 use Rattle.cred_state.proofs.Reading.{some_spare}
 use Rattle.cred_state.proofs.Replacing.{late, may_replace}
@@ -49,7 +49,7 @@ invariant_of-self-2 c =
     rw (by.tasks, made) (
       replaced_kept c.self.invariant.0 c.replace_in-cred.new.slots c.args.task _ new may.has by.long
           (seals_spare c.in_ok-reserve.ensures.ok by.table.seals) sound.tasks (late by.table)
-          t.broadcasts c.replace_in-cred.new.dump,
+          t.broadcasts c.replace_in-cred.new.flags,
       put_free c.self.inside.prepared c.self.inside.master.loans c.self.inside.master.slots c.in-Some.slot (Some new)
           (free_apart c.self.invariant.0 c.in-Some.slot (some_spare c.self.inside.slots c.in_ok-reserve.ensures.ok (sym c.in-Some.ensures))) c.self.invariant.1,
     )
@@ -64,9 +64,9 @@ returns-clause-ok c = λ call given.
     let new = changed (cred_under s.creds c.args.now.number) c.args.parts.now c.args.groups.now in
     let by = c.replace_in-cred.ensures in
     let made = rw c.in_ok-reserve.ensures.ok at by.words in
-    let other = rw (← c.self.view_is) at c.requires.other in
+    let other = rw (← c.self.view_is) at c.requires.ids_changed in
     let flags = by.flags may.owner may.lives
-    ∙ ap (renewed t.dump may.owner.process) other in
+    ∙ ap (renewed t.flags may.owner.process) other in
     rw (← c.self.view_is, by.tasks, made, flags)
     (raw_sealed c.self.invariant.0 c.replace_in-cred.new.slots c.args.task _ new may.has call may rule by.long
     (seals_spare c.in_ok-reserve.ensures.ok by.table.seals) sound.tasks (late by.table))

@@ -13,7 +13,7 @@ returns-clause-ok c =
     let same = c.in_ok-cred.ensures.same in
     let held : option_map (λ (held : Numbered). held.cred) (held_by s c.args.hold) ≡ Some c.in-Some.cred
     = sym c.in_ok-cred.ensures.cred ∙ c.in-Some.is in
-    let there : slice_get s.infos c.args.place ≡ Some c.in-Some-file.file.now
-    = sym (rw (c.infos.ensures, same) at c.in-Some-file.ensures) in
+    let there : slice_get s.inodes c.args.place ≡ Some c.in-Some-file.file.now
+    = sym (rw (c.inodes.ensures, same) at c.in-Some-file.ensures) in
     (rw same at c.put_file.ensures.ok) c.args.hold (λ (by : Credential) (file : File). rules.set_attr by file c.args.attr.now)
     c.in-Some.cred c.in-Some-file.file.now held there (by_exactly c.set_attr-made.result _ (rw c.in_ok-attr.ensures.equal at c.set_attr-made.ensures))

@@ -1,7 +1,7 @@
 use Rattle.std.proofs.Common.{None, sym}
 use Rattle.cred_model.specs.Slots.{kept}
 use Rattle.cred_sound.specs.Sound.{IsSound}
-use Rattle.cred_work.specs.declared.lent.Lent.TheVariants.{Signalling}
+use Rattle.cred_work.specs.declared.pending.Pending.TheVariants.{Signalling}
 use Rattle.cred_tables.specs.Out.{AreOut}
 use Rattle.cred_state.specs.TokensOut.{with_lent}
 use Rattle.cred_state.proofs.Asking.{were_signalled}

@@ -3,7 +3,7 @@ use Rattle.std.specs.Option.{option_map_or}
 use Rattle.cred_model.specs.State.{Task}
 use Rattle.cred_model.specs.Moves.{first_task}
 use Rattle.cred_model.proofs.Numbers.{current_is}
-use Rattle.cred_cast.proofs.Conditions.{dead_waits_nowhere}
+use Rattle.cred_broadcasts.proofs.Conditions.{dead_waits_nowhere}
 use Rattle.cred_tables.proofs.Sealing.{current-held, referred_to}
 use Rattle.cred_state.proofs.Seen.{seen_parts, seen_state}
 use Rattle.cred_state.proofs.Creating.{spawn_done}

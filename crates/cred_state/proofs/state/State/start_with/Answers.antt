@@ -5,7 +5,7 @@ use Rattle.cred_tables.proofs.Free.{full_swept}
 use Rattle.cred_state.proofs.Seen.{seen_parts}
 use Rattle.cred_state.proofs.Inits.{init_full, init_kept, init_sealed, started}
 use Rattle.cred_tables.proofs.Sealing.{none_spare, roomy_spare, seals_spare}
-use Rattle.cred_tables.proofs.Outs.{free_alone, free_apart}
+use Rattle.cred_tables.proofs.TokensOfLabels.{free_alone, free_apart}
 use Rattle.cred_tables.proofs.Puts.{put_free}
 use Rattle.cred_state.proofs.Reading.{some_spare}
 use Rattle.cred_state.proofs.Reserved.{kept_spare, kept_swept}
@@ -49,7 +49,7 @@ invariant_of-self-2 c =
     started t.tasks c.start_in.new.tasks c.args.number c.args.process _ _ c.in_ok-start_in.ensures.tasks (c.next_number-next.ensures ∙ sym seals.counted) in
     rw (tasks, c.set.ensures.made) (
       init_kept c.self.invariant.0 c.seal_next-current.new.slots c.args.number c.args.process c.set.ensures.long
-          (seals_spare c.in_ok-reserve.ensures.ok seals) c.args.cred.now c.start_in.new.dump,
+          (seals_spare c.in_ok-reserve.ensures.ok seals) c.args.cred.now c.start_in.new.flags,
       put_free t.prepared t.master.loans t.master.slots c.in-Some.slot (Some c.args.cred.now)
           (free_apart c.self.invariant.0 c.in-Some.slot (some_spare t.slots c.in_ok-reserve.ensures.ok (sym c.in-Some.ensures))) c.self.invariant.1,
     )

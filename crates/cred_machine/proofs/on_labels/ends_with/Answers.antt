@@ -1,5 +1,0 @@
-use Rattle.std.proofs.Common.{rules}
-use Rattle.cred_machine.proofs.on_labels.ends_with.Goals as goal
-
-pub returns-in-Exec : goal.returns-in-Exec
-returns-in-Exec c = search rules

@@ -1,0 +1,4 @@
+//! The events of an id call: a task makes the call, and the other threads of its process follow, or
+//! it makes it for itself alone.
+mod broadcasts;
+mod raw;

@@ -1,5 +1,0 @@
-use Rattle.cred_plain.proofs.Busy.{busy_by}
-use Rattle.cred_plain.proofs.casts.open_in.Goals as goal
-
-pub returns : goal.returns
-returns c = busy_by _ c.number_in.result c.number_in.ensures

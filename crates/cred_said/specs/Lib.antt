@@ -1,7 +1,0 @@
-pub mod Texts
-pub mod Ends
-pub mod Cuts
-pub mod Leaves
-pub mod Scripts
-pub mod Telling
-pub mod Statuses

@@ -1,0 +1,1 @@
+"""Unit tests of what stored data can't isolate: .ci/units runs them."""
