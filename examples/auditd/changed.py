@@ -11,9 +11,11 @@ from pathlib import Path
 from auditd.compare import Comparer, Result
 from auditd.findings import Class
 from auditd.gather import Gatherer
-from auditd.records import Event
+from auditd.living import MOST_THREADS
+from auditd.records import ALL, Event
 from auditd.script import USUAL, Kind, Limits, Script
 from auditd.start import started
+from auditd.tasks import Held, Kept, Known
 
 from reasons import CASES, LOST, Change
 
@@ -204,6 +206,46 @@ def inside() -> str:
     )
 
 
+def plain(lines: list[str], pid: int, parent: int, serial: int, uid: int = 0) -> str:
+    """A record of getpid(2) by another process, as a log has it of its first one."""
+    line = next(line for line in lines if "type=SYSCALL" in line)
+    line = re.sub(r"\((\d+)\.\d+:\d+\)", rf"(\1.999:{serial})", line)
+    line = re.sub(r"syscall=\d+ success=\w+ exit=-?\d+", "syscall=39 success=yes exit=9", line)
+    line = re.sub(r"ppid=\d+ pid=\d+", f"ppid={parent} pid={pid}", line)
+    return re.sub(r"\b(e|s|fs)?([ug])id=\d+", rf"\1\2id={uid}", line)
+
+
+def crowds() -> str:
+    """Processes with many threads go on in a script that has no room for all of them: it ends
+    before the record that would make it too long."""
+    lines = lines_of("capsh")
+    first = next(Gatherer().events(lines))
+    held = Held(first.ids, ALL, 0, ALL, ALL, 0)
+    kept = Kept((held,) * MOST_THREADS, tuple(range(MOST_THREADS)), None, first.program,
+                first.parent, Known(True, True, True))  # fmt: skip
+    pids = range(9001, 9006)
+    text = [plain(lines, pid, 1, at) for at, pid in enumerate((9000, *pids), 1)]
+    comparer = Comparer(started=dict.fromkeys(pids, kept))
+    result = comparer.run(Gatherer().events(text))
+    assert counted(result) == (len(pids), []), f"many threads: {counted(result)}"
+    assert result.scripts == 2, f"many threads: {result.scripts} scripts"
+    return f"{len(pids)} processes of {MOST_THREADS} threads each are cut into 2 scripts"
+
+
+def in_a_container() -> str:
+    """A process of the host that has the number that a call in a PID namespace returns is no child
+    of the caller."""
+    lines = lines_of("container")
+    events = list(Gatherer().events(lines))
+    made = next(one for one in events if one.name == "vfork" and one.result < 100)
+    own = [plain(lines_of("su"), made.result, 1, at, uid=3001) for at in
+           (events[0].serial, made.serial + 1, made.serial + 2)]  # fmt: skip
+    result = result_of([*lines, *own])
+    wanted = counted(result_of(lines))[0] + len(own) - 1
+    assert counted(result) == (wanted, []), f"{counted(result)}, and not {wanted}"
+    return "a number of a PID namespace isn't taken for that of a process of the host"
+
+
 def forms() -> str:
     """The same log as other programs write it."""
     lines = lines_of("sudo")
@@ -226,5 +268,5 @@ def forms() -> str:
 
 def all_checks() -> Iterator[str]:
     """What each check says."""
-    for check in (reasons, forms, mixtures, again, cuts, inside):
+    for check in (reasons, forms, mixtures, again, cuts, crowds, inside, in_a_container):
         yield check()

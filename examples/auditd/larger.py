@@ -5,7 +5,8 @@
     /usr/bin/time -v share/credtrace-compare-auditd LOG
 
 In each round the stored logs happen beside each other, as on a host, with other pids, times and
-serial numbers than before.
+serial numbers than before. As of a kernel pids follow one another, and none comes again in 10^7
+records.
 """
 
 from __future__ import annotations
@@ -23,7 +24,7 @@ STAMP = re.compile(r"audit\((\d+\.\d+):(\d+)\)")
 PIDS = re.compile(r"\b(o?pid|ppid)=(\d+)")
 # A call that makes a task returns its pid, or where that has namespaces of pids a small number.
 MADE = re.compile(r"syscall=(?:56|57|58|435) success=yes exit=(\d+)")
-# A log's pids are few and lie together; those of the next log begin so much higher.
+# A log's pids are few and lie together: those from its least one on, below this many more.
 APART = 2048
 # The times of a round lie so many seconds behind those of the one before.
 SECONDS = 30
@@ -38,19 +39,25 @@ class Told:
     lines: tuple[str, ...]
 
 
-def events_of(text: str, at: int) -> Iterator[Told]:
-    """The events of a log, whose pids become those from APART times this number on."""
+def pids_of(text: str) -> list[int]:
+    """The pids of a log that are to be others."""
+    found = [*PIDS.findall(text), *(("made", number) for number in MADE.findall(text))]
+    least = min(int(number) for name, number in found if name == "pid")
+    return sorted({int(number) for _, number in found if 0 <= int(number) - least < APART})
+
+
+def events_of(text: str, pids: dict[int, int]) -> Iterator[Told]:
+    """The events of a log, whose pids become the places that they have among all of a round."""
     found: dict[str, list[str]] = {}
     for line in text.splitlines():
         stamp = STAMP.search(line)
         if stamp is not None:
             found.setdefault(f"{stamp[1]}:{stamp[2]}", []).append(line)
-    least = min(int(number) for name, number in PIDS.findall(text) if name == "pid")
     first = min(float(stamp.partition(":")[0]) for stamp in found)
 
     def pid(number: str) -> str:
-        moved = int(number) - least
-        return f"{{{at * APART + moved}}}" if 0 <= moved < APART else number
+        place = pids.get(int(number))
+        return number if place is None else f"{{{place}}}"
 
     for time, lines in found.items():
         changed = []
@@ -65,14 +72,18 @@ def rounds(count: int) -> Iterator[str]:
     """So many records."""
     logs = [path for path in sorted(HERE.glob("*/log")) if path.parent.name not in LEFT_OUT]
     events: list[Told] = []
-    for at, path in enumerate(logs):
-        events += events_of(path.read_text(encoding="latin-1"), at)
+    size = 0
+    for path in logs:
+        text = path.read_text(encoding="latin-1")
+        pids = {pid: at for at, pid in enumerate(pids_of(text), size)}
+        size += len(pids)
+        events += events_of(text, pids)
     events.sort(key=lambda event: event.after)
     number = re.compile(r"\{(\d+)\}")
     serial = turn = 0
     while True:
         # Below the greatest pid of a 64-bit kernel, 4194304.
-        pids = 1000 + turn * len(logs) * APART % 4_000_000
+        first = 1000 + turn * size % (4_193_000 // size * size)
         for event in events:
             serial += 1
             stamp = f"audit({BEGINS + turn * SECONDS + event.after:.3f}:{serial})"
@@ -80,7 +91,7 @@ def rounds(count: int) -> Iterator[str]:
                 if count == 0:
                     return
                 count -= 1
-                line = number.sub(lambda it: str(pids + int(it[1])), line)
+                line = number.sub(lambda it: str(first + int(it[1])), line)
                 yield line.replace("audit(@)", stamp)
         turn += 1
 

@@ -2,6 +2,7 @@
 
 from __future__ import annotations
 
+from dataclasses import replace
 from functools import lru_cache
 
 from .begin import first_seen, in_new_space
@@ -14,6 +15,7 @@ from .tasks import Clone, Process, Task, thread_of
 from .window import MAKES
 
 CLONE_THREAD = 0x10000
+SIGKILL = 9
 
 
 class Builder(Lines):
@@ -97,6 +99,8 @@ class Builder(Lines):
         name, process = event.name, task.process
         if name in MAKES and event.done and event.result > 0:
             self.makes(event, task)
+        elif name == "kill" and event.done and event.args[1] == SIGKILL:
+            self.killed(event)
         elif name == "exit_group" or name == "exit" and len(process.threads) == 1:
             self.end(process)
         elif name == "exit" and process.crowd:
@@ -123,23 +127,62 @@ class Builder(Lines):
         if (child, event.place) in self.done:
             return
         flags = event.args[0] if event.name == "clone" else 0
-        acts = self.window.acts(child, event.place)
-        if flags & CLONE_THREAD or event.name == "clone3" and not acts:
+        first = self.window.next_of(child, event.place)
+        if flags & CLONE_THREAD or event.name == "clone3" and not may_be_child(first, event):
+            self.taken_again(child, task)
             self.spawn(task, child)
             return
         before = self.living.get(child)
         if before is not None and before.parent == event.pid and before.seen >= float(event.time):
             # The child's own records came first.
             return
+        if first is not None and self.is_of_host(first, event):
+            task.process.clones.append(Clone(event))
+            return
         if before is not None:
             self.end(before)
         self.carried.pop(child, None)
-        if not acts:
+        if first is None:
             task.process.clones.append(Clone(event))
             return
         process = self.fork(task, child, event)
         if flags & CLONE_NEWUSER:
             self.enter(process.threads[0], Space(task.ids[1], process.space))
+
+    def is_of_host(self, first: Event, made: Event) -> bool:
+        """Whether the number of a child, which is below its parent's, is one of a PID namespace,
+        since the process of the host that has it goes on with the parent that it had."""
+        has = self.living.get(first.pid) or self.carried.get(first.pid)
+        return has is not None and first.pid < made.pid != first.parent == has.parent
+
+    def taken_again(self, number: int, task: Task) -> None:
+        """A thread has a number: a process that had it has ended, though no record says so. Below
+        the caller's own it may be one of a PID namespace."""
+        if number <= task.process.pid:
+            return
+        before = self.living.get(number)
+        if before is not None:
+            self.end(before)
+        self.carried.pop(number, None)
+
+    def killed(self, event: Event) -> None:
+        """SIGKILL was sent to these: their numbers may be of others from now on."""
+        for pid in event.objects:
+            process = self.living.get(pid)
+            kept = self.carried.get(pid)
+            if process is not None:
+                process.killed = True
+            elif kept is not None:
+                self.carried[pid] = replace(kept, killed=True)
+
+
+def may_be_child(first: Event | None, made: Event) -> bool:
+    """Whether the first call under a number may be of a child that clone3(2) made, rather than of a
+    later process that has the number of a thread again: by its parent, or by its program where that
+    parent has ended."""
+    if first is None:
+        return False
+    return first.parent == made.pid or first.executes or first.program == made.program
 
 
 @lru_cache(maxsize=4096)

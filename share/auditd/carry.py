@@ -57,7 +57,7 @@ def carried(builder: Builder, answers: dict[int, str], asked: list[Asked], last:
         found[process.pid] = Kept(
             tuple(held for held, _ in ones), tuple(number for _, number in ones),
             dumpable[process], process.program, process.parent, process.known, process.space,
-            process.untold, clones_of(process), process.crowd,
+            process.untold, clones_of(process), process.crowd, process.killed,
         )  # fmt: skip
     done = {(pid, place) for pid, place in builder.done if place > last}
     ended = builder.ended

@@ -81,10 +81,7 @@ class Comparer:
     def _segment(self, window: Window) -> int:
         """One script: how many events it has."""
         for _ in range(ROUNDS):
-            builder = Builder(window, self._carried, self._again, self._bounding or ALL,
-                              self._limits)  # fmt: skip
-            count, last = self._filled(builder, window)
-            asked = [] if window.last and count == len(window) else ask_all(builder)
+            builder, count, last, asked = self._built(window)
             if not self._judges and not asked:
                 answers = {}
                 break
@@ -111,11 +108,24 @@ class Comparer:
             "the others in it aren't told"
         )
 
-    def _filled(self, builder: Builder, window: Window) -> tuple[int, int]:
-        """Takes events until the script is full, or only those are left that are for the next: how
-        many it took, and the place of the last one."""
-        limits, script = self._limits, builder.script
+    def _built(self, window: Window) -> tuple[Builder, int, int, list[Asked]]:
+        """A script, how many events it has, the place of the last one, and what is asked at its
+        end. Where the last event makes it longer than the program takes, it is for the next."""
+        limits = self._limits
         most = len(window) if window.last else max(1, limits.events - limits.behind)
+        while True:
+            builder = Builder(window, self._carried, self._again, self._bounding or ALL,
+                              limits)  # fmt: skip
+            count, last = self._filled(builder, window, most)
+            asked = [] if window.last and count == len(window) else ask_all(builder)
+            if count <= 1 or builder.script.taken():
+                return builder, count, last, asked
+            most = count - 1
+
+    def _filled(self, builder: Builder, window: Window, most: int) -> tuple[int, int]:
+        """Takes events until the script is full, or so many: how many it took, and the place of
+        the last one."""
+        script = builder.script
         count = last = 0
         for count, event in enumerate(window.first(most), 1):
             builder.take(event)

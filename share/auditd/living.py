@@ -75,7 +75,7 @@ class Living:
     def go_on(self, pid: int, kept: Kept) -> Process:
         """A process of an earlier script goes on in this one."""
         process = Process(pid, kept.parent, kept.program, kept.known.copy(), space=kept.space,
-                          untold=kept.untold, crowd=kept.crowd,
+                          untold=kept.untold, crowd=kept.crowd, killed=kept.killed,
                           clones=list(kept.clones))  # fmt: skip
         self.living[pid] = process
         self.start(process, list(kept.threads), list(kept.numbers), kept.dumpable)

@@ -25,15 +25,14 @@ class Owners(Living):
         return self.adopt(event, parent)
 
     def comes_again(self, event: Event, process: Process) -> bool:
-        """Whether it is another process of the same number: of another parent, though the first one
-        lives, and no child of whom adopts children."""
-        if event.parent == process.parent:
-            return False
-        if process.parent in self.living or process.parent in self.carried:
-            return event.parent != 1 and any(
+        """Whether it is another process of the same number, though no record says that the first
+        one ended: of another parent, where the first one was killed, or where that parent's record
+        of making it comes later, as of vfork(2)."""
+        return event.parent != process.parent and (
+            process.killed or any(
                 one.pid == event.parent for one in self.window.makers(event.pid, event.place)
             )
-        return False
+        )  # fmt: skip
 
     def is_late(self, event: Event) -> bool:
         """Whether it is the late record of a process that has ended, and not a new one."""

@@ -26,6 +26,8 @@ class Limits:
 
 
 USUAL = Limits()
+# What the program takes, by docs/FORMATS.md: of tasks, files, namespaces, lines and bytes.
+TASKS, FILES, SPACES, LINES, BYTES = 64, 256, 15, 20_000, 1 << 20
 
 
 class Kind(str, Enum):
@@ -125,6 +127,17 @@ class Script:
             or len(files) > limits.files
             or len(inits) + self.peak > limits.tasks
             or len(spaces) > limits.spaces
+        )
+
+    def taken(self) -> bool:
+        """Whether the program takes it. One record may bring several processes of an earlier
+        script, each with all of its threads and the lines that lead them there."""
+        return (
+            len(self.inits) + self.peak <= TASKS
+            and len(self.files) <= FILES
+            and len(self.spaces) <= SPACES
+            and self.lead() + len(self.body) <= LINES
+            and self.bytes <= BYTES
         )
 
     def lead(self) -> int:

@@ -71,6 +71,7 @@ class Kept:
     untold: bool = False
     clones: tuple[Clone, ...] = ()
     crowd: int = 0
+    killed: bool = False
 
 
 @dataclass(eq=False, slots=True)
@@ -93,6 +94,8 @@ class Process:
     untold: bool = False
     # How many threads it has besides those that are followed.
     crowd: int = 0
+    # Whether SIGKILL was sent to it: no record says that it ended.
+    killed: bool = False
     # Clones whose children make no call yet.
     clones: list[Clone] = field(default_factory=list)
     # The last record that agreed with the rules, and the one before.

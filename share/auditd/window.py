@@ -53,9 +53,9 @@ class Window:
                 return
             yield event
 
-    def acts(self, pid: int, place: int) -> bool:
-        """Whether a process with this number makes a call from here on."""
-        return next(self.of(pid, place), None) is not None
+    def next_of(self, pid: int, place: int) -> Event | None:
+        """The next call of a process with this number from here on."""
+        return next(self.of(pid, place), None)
 
     def makers(self, pid: int, place: int) -> list[Event]:
         """The later events that say that they made this process."""

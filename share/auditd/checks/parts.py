@@ -113,7 +113,7 @@ class Order(unittest.TestCase):
         window = reader.window(2)
         assert window is not None
         self.assertEqual((len(window), window.last), (2, False))
-        self.assertTrue(window.acts(60, 0) and not window.acts(60, 2))
+        self.assertTrue(window.next_of(60, 0) and not window.next_of(60, 2))
         self.assertEqual([one.serial for one in window.makers(60, -1)], [1])
         window.drop(1)
         self.assertEqual(window.makers(60, -1), [])
