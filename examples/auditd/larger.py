@@ -18,8 +18,9 @@ from dataclasses import dataclass
 from pathlib import Path
 
 HERE = Path(__file__).resolve().parent
-# Not the edited one, nor those that only make sense with what /proc said where they begin.
-LEFT_OUT = ("overwritten", "begun", "begun-mapped", "nosuid", "strace")
+# Not the edited one, nor those that only make sense with what /proc said where they begin, nor that
+# whose pids lie far apart.
+LEFT_OUT = ("overwritten", "begun", "begun-mapped", "nosuid", "strace", "pids-again")
 STAMP = re.compile(r"audit\((\d+\.\d+):(\d+)\)")
 PIDS = re.compile(r"\b(o?pid|ppid)=(\d+)")
 # A call that makes a task returns its pid, or where that has namespaces of pids a small number.
