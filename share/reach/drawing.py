@@ -119,7 +119,7 @@ def marker(kind: str, colour: str) -> str:
     """The head of an arrow."""
     return (
         f'<marker id="{kind}" viewBox="0 0 8 8" refX="8" refY="4" markerWidth="7" markerHeight="7" '
-        f'orient="auto"><path d="M0 0 L8 4 L0 8 z" style="fill:{colour};stroke:none"/></marker>'
+        f'orient="auto"><path d="M0 0 8 4 0 8 z" style="fill:{colour};stroke:none"/></marker>'
     )
 
 
